@@ -1,0 +1,16 @@
+pub mod Analysis
+pub mod Causes
+pub mod Effect
+pub mod Graph
+pub mod Legal
+pub mod Limits
+pub mod Lines
+pub mod Lists
+pub mod Number
+pub mod Requests
+pub mod Script
+pub mod Status
+pub mod Transcript
+pub mod Value
+pub mod Walk
+pub mod Words
