@@ -1,0 +1,6 @@
+pub mod NeighbourLemmas
+pub mod RoundLemmas
+pub mod TableLemmas
+pub mod TestLemmas
+pub mod ValueLemmas
+pub mod WalkLemmas

@@ -1,0 +1,51 @@
+ghost use Rattle.std.specs.Prelude.{◌≡◌, true, false};
+ghost use Rattle.ris_base.specs.Analysis.{step, better};
+ghost use Rattle.ris_base.specs.declared.analyses.Kind.TheVariants.{Bfs as kind};
+ghost use Rattle.ris_four.specs.TheFour.{start_of, bfs_laws, bfs_meaning};
+
+use ris_algo::Monotone;
+
+/// Breadth-first depth: the least number of triples of a walk from the root.
+#[derive(Clone, Copy, Debug)]
+pub struct Bfs {
+    root: u32,
+}
+
+impl Bfs {
+    /// The analysis from this root. A root that isn't in the graph reaches nothing.
+    pub fn new(root: u32) -> Bfs
+        ensures { ⟦<Bfs as Monotone>⟧.spec result ≡ record { kind = kind; root = root } }
+    {
+        Bfs { root }
+    }
+}
+
+impl Monotone for Bfs {
+    ghost spec = { λ s. record { kind = kind; root = s.root } };
+
+    ghost start_of = { λ s. start_of kind s.root };
+
+    ghost step_of = { λ s. step kind };
+
+    ghost better_of = { λ s. better kind };
+
+    ghost BOTH_WAYS = { false };
+
+    const BOTH_WAYS: bool = false;
+
+    fn start(&self, x: u32) -> Option<u64> {
+        if x == self.root { Some(0) } else { None }
+    }
+
+    fn step(&self, value: u64, weight: u64) -> u64 {
+        value + 1
+    }
+
+    fn better(&self, a: u64, b: u64) -> bool {
+        a < b
+    }
+
+    ghost laws = { λ s. bfs_laws s.root };
+
+    ghost meaning = { λ s. bfs_meaning s.root };
+}
