@@ -1,0 +1,12 @@
+pub mod EdgeFacts
+pub mod EndingFacts
+pub mod JobFacts
+pub mod LegalFacts
+pub mod LineFacts
+pub mod PlayFacts
+pub mod ReadFacts
+pub mod ReportFacts
+pub mod RunFacts
+pub mod SpellingFacts
+pub mod TextFacts
+pub mod VertexFacts

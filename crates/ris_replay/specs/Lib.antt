@@ -1,0 +1,5 @@
+pub mod Endings
+pub mod Journal
+pub mod Ready
+pub mod Reports
+pub mod Steps

@@ -1,0 +1,235 @@
+use crate::run_inline;
+use ris_base::{Bytes, FreeGate, Meter, Status, Words};
+use ris_io::{Calls, MemSink, MemSource};
+use std::alloc::Global;
+use std::process::Abort;
+use std::test::Fail;
+use std::thread::Threads;
+
+/// Counts visits for a test.
+#[derive(Drop)]
+struct Count {
+    ticks: u64,
+}
+
+impl Meter for Count {
+    ghost ticks = { λ c. c.ticks };
+
+    fn tick(&mut self) {
+        self.ticks = self.ticks.saturating_add(1);
+    }
+
+    fn total(&self) -> u64 {
+        self.ticks
+    }
+}
+
+/// What a run over memory is given: its words in one text with blanks between them, the bytes of its input, and the number
+/// of the call of each stream that fails, 0 for none.
+#[derive(Clone, Copy)]
+struct Given<'a> {
+    words: &'a str,
+    script: &'a [u8],
+    read_cut: u64,
+    read_fails: u64,
+    write_cut: u64,
+    write_fails: u64,
+    report_fails: u64,
+}
+
+/// What is wanted of it.
+#[derive(Clone, Copy)]
+struct Wanted<'a> {
+    status: Status,
+    out: &'a str,
+    faults: &'a str,
+}
+
+fn calls(alloc: Global, number: u64) -> Result<Calls, Fail> {
+    let mut calls = Calls::new(alloc);
+    if number > 0 {
+        calls.push(number)?;
+    }
+    Ok(calls)
+}
+
+/// Runs what is given, and compares it with what is wanted.
+fn expect<R: Threads + Sync + AllocGlobal + Abort>(
+    rt: &R,
+    given: Given,
+    wanted: Wanted,
+) -> Result<(), Fail> {
+    let mut words = Words::new(rt.alloc());
+    for word in given.words.split_whitespace() {
+        words.push(word)?;
+    }
+    let script = Bytes::from_vec(Vec::from_slice(rt.alloc(), given.script)?);
+    let mut input = MemSource::new(
+        script,
+        given.read_cut.max(1),
+        calls(rt.alloc(), given.read_fails)?,
+    );
+    let mut out = MemSink::new(
+        rt.alloc(),
+        given.write_cut.max(1),
+        calls(rt.alloc(), given.write_fails)?,
+    );
+    let mut faults = MemSink::new(rt.alloc(), 4, calls(rt.alloc(), given.report_fails)?);
+    let mut meter = Count { ticks: 0 };
+    let status = run_inline(
+        rt,
+        rt.alloc(),
+        &words,
+        &mut input,
+        &mut out,
+        &mut faults,
+        &mut meter,
+        &FreeGate,
+    );
+    assert_eq!(rt; status, wanted.status);
+    assert_eq!(rt; out.held(), wanted.out.as_bytes());
+    assert_eq!(rt; faults.held(), wanted.faults.as_bytes());
+    assert_eq!(rt; meter.total(), 0);
+    Ok(())
+}
+
+const WORDS: &str = "replay --analyses bfs:0";
+
+const FIRST: &[u8] = b"risgraph,1,3,1\n0,adde,0,1,5\n0,value,last,0,1\n";
+
+const FIRST_TEXT: &str = "0,0,place,1\n0,1,value,1,1,1\njournal,entry,1,0,0\nsummary,1,0,0,0\n";
+
+const GROWING: &[u8] =
+    b"risgraph,1,4,1\n0,adde,0,1,9\n0,adde,1,2,9\n0,value,last,0,2\n0,adde,0,2,9\n0,value,last,0,2\n0,value,last,0,3\n0,value,last,0,7\n";
+
+const GROWING_TEXT: &str =
+    "0,0,place,1\n0,1,place,2\n0,2,value,2,2,2\n0,3,place,3\n0,4,value,3,3,1\n0,5,value,3,3,unreached\n0,6,value,3,3,absent\njournal,entry,1,0,0\njournal,entry,2,0,1\njournal,entry,3,0,3\nsummary,3,0,0,0\n";
+
+fn done(out: &'static str) -> Wanted<'static> {
+    Wanted {
+        status: Status::Ok,
+        out,
+        faults: "",
+    }
+}
+
+fn refused(status: Status, faults: &'static str) -> Wanted<'static> {
+    Wanted {
+        status,
+        out: "",
+        faults,
+    }
+}
+
+#[test]
+fn scripts_give_their_transcripts(rt: HostRuntime) -> Result<(), Fail> {
+    expect(&rt, over(WORDS, FIRST), done(FIRST_TEXT))?;
+    expect(
+        &rt,
+        over(WORDS, b"risgraph,1,3,1"),
+        done("summary,0,0,0,0\n"),
+    )?;
+    expect(&rt, over(WORDS, GROWING), done(GROWING_TEXT))
+}
+
+#[test]
+fn each_status_has_its_line(rt: HostRuntime) -> Result<(), Fail> {
+    let usage = refused(Status::Usage, "ris: usage\n");
+    for words in [
+        "",
+        "replay",
+        "frob",
+        "replay --analyses bfs",
+        "replay --analyses bfs:",
+        "replay --analyses bfs:4194304",
+        "replay --analyses bfs:00000000",
+        "replay --analyses wcc",
+        "replay --analyses bfs:0 more",
+        "replay --analysis bfs:0",
+    ] {
+        expect(&rt, over(words, FIRST), usage)?;
+    }
+    expect(
+        &rt,
+        over(WORDS, b"risgraph,1,3,1\n0,adde,0,3,5\n"),
+        refused(Status::Script, "ris: script: record 2: unbuilt\n"),
+    )?;
+    expect(
+        &rt,
+        over(WORDS, b""),
+        refused(Status::Script, "ris: script: record 1: unbuilt\n"),
+    )
+}
+
+#[test]
+fn a_stream_that_fails_ends_the_run(rt: HostRuntime) -> Result<(), Fail> {
+    for report_fails in [0, 2] {
+        let reading = Given {
+            read_cut: 4,
+            read_fails: 3,
+            report_fails,
+            ..over(WORDS, FIRST)
+        };
+        let line = if report_fails == 0 {
+            "ris: read fault\n"
+        } else {
+            "ris:"
+        };
+        expect(&rt, reading, refused(Status::ReadFault, line))?;
+        let writing = Given {
+            write_cut: 8,
+            write_fails: 2,
+            report_fails,
+            ..over(WORDS, FIRST)
+        };
+        let line = if report_fails == 0 {
+            "ris: write fault\n"
+        } else {
+            "ris:"
+        };
+        let wanted = Wanted {
+            status: Status::WriteFault,
+            out: "0,0,plac",
+            faults: line,
+        };
+        expect(&rt, writing, wanted)?;
+    }
+    Ok(())
+}
+
+/// So many line feeds.
+fn line_feeds(alloc: Global, count: usize) -> Result<Vec<u8>, Fail> {
+    let bytes = vec![in alloc; b'\n'; count]?;
+    Ok(bytes)
+}
+
+/// A run over memory of these bytes.
+fn over<'a>(words: &'a str, script: &'a [u8]) -> Given<'a> {
+    Given {
+        words,
+        script,
+        read_cut: 4096,
+        read_fails: 0,
+        write_cut: 4096,
+        write_fails: 0,
+        report_fails: 0,
+    }
+}
+
+#[test]
+fn a_script_has_a_greatest_length(rt: HostRuntime) -> Result<(), Fail> {
+    let long = line_feeds(rt.alloc(), 67_108_865)?;
+    let whole = over(WORDS, long.as_slice());
+    expect(
+        &rt,
+        whole,
+        refused(Status::TooLong, "ris: input too long\n"),
+    )?;
+    let limit = line_feeds(rt.alloc(), 67_108_864)?;
+    let shorter = over(WORDS, limit.as_slice());
+    expect(
+        &rt,
+        shorter,
+        refused(Status::Script, "ris: script: record 1: unbuilt\n"),
+    )
+}
