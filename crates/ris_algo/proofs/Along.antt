@@ -44,3 +44,15 @@ along-bound {step = step} laws c m (t ∷ rest) h =
     along-bound laws (step c t.weight) m rest (All-tail (λ t. t.weight ≤ m) t rest h) in
     let one : step c t.weight ≤ c + t.weight + 1 = laws.step_small c t.weight in
     omega arith
+
+-- of two values at most one is better than the other
+pub not_better-back : {start : ℕ → Option ℕ} {step : ℕ → ℕ → ℕ} {better : ℕ → ℕ → Bool} → IsMonotone start step better
+    → (a b : ℕ) → better a b ≡ true → better b a ≡ false
+not_better-back {better = better} laws a b h =
+    false_from_ne_true (better b a) (λ back. both_ways (better a a) (laws.irreflexive a) (laws.transitive a b a h back))
+
+-- the step from a better value is the same where it isn't better than that from the other
+pub step_same : {start : ℕ → Option ℕ} {step : ℕ → ℕ → ℕ} {better : ℕ → ℕ → Bool} → IsMonotone start step better
+    → (a b w : ℕ) → better a b ≡ true → better (step a w) (step b w) ≡ false → step a w ≡ step b w
+step_same {step = step} laws a b w improved stable =
+    laws.total (step a w) (step b w) stable (laws.monotone b a w (not_better-back laws a b improved))

@@ -6,6 +6,7 @@ use Rattle.std.proofs.lemmas.List.Elements.{All-cons}
 use Rattle.std.proofs.lemmas.Map.Keys.{IsDistinct-cons, IsDistinct-tail}
 use Rattle.ris_base.specs.Graph.{HasVertex, IsProper}
 use Rattle.ris_base.specs.Walk.{Walk, IsWalk, Leads, worth, both_ways}
+use Rattle.ris_base.specs.declared.graphs.Format.{Format}
 use Rattle.ris_base.specs.declared.graphs.PlainGraph.{PlainGraph}
 use Rattle.ris_base.specs.declared.graphs.Triple.{Triple}
 use Rattle.ris_base.specs.declared.analyses.Spec.{Spec}
@@ -109,16 +110,16 @@ short_lead {g = g} proper laws both c a w x begins leads =
     (r.triples, Leads-from_visits g both a r.triples r.stops x r.visits, once_is_short proper both a r.triples r.stops x begins r.visits r.once, r.not_worse)
 
 -- to every walk there is one to the same vertex, with fewer triples than there are vertices, that is not worse
-pub short_walk : {g : PlainGraph} {spec : Spec} {start : ℕ → Option ℕ} {step : ℕ → ℕ → ℕ} {better : ℕ → ℕ → Bool} {both : Bool}
-    → IsProper g → IsMonotone start step better → IsAnalysis spec start step better both
+pub short_walk : {g : PlainGraph} {spec : Spec} {suits : Format → Type 0} {start : ℕ → Option ℕ} {step : ℕ → ℕ → ℕ} {better : ℕ → ℕ → Bool} {both : Bool}
+    → IsProper g → IsMonotone start step better → IsAnalysis spec suits start step better both → suits g.format
     → (x : ℕ) (w : Walk) → IsWalk g spec x w
     → (s : Walk) × IsWalk g spec x s × (length s.triples < length g.vertices) × (better (worth g spec.kind w) (worth g spec.kind s) ≡ false)
-short_walk {g = g} {spec = spec} {step = step} {better = better} proper laws meaning x w walk =
+short_walk {g = g} {spec = spec} {step = step} {better = better} proper laws meaning fits x w walk =
     let from = start_from_first meaning w.first walk.first in
     let short = short_lead proper laws (both_ways spec.kind) from.0 w.first w.triples x walk.begins walk.leads in
     let s : Walk = record { first = w.first; triples = short.0 } in
-    let before : worth g spec.kind w ≡ along step from.0 w.triples = meaning.reaches g w from.0 from.1 in
-    let after : worth g spec.kind s ≡ along step from.0 s.triples = meaning.reaches g s from.0 from.1 in (
+    let before : worth g spec.kind w ≡ along step from.0 w.triples = meaning.reaches g w from.0 fits from.1 in
+    let after : worth g spec.kind s ≡ along step from.0 s.triples = meaning.reaches g s from.0 fits from.1 in (
       s,
       record { begins = walk.begins; first = walk.first; leads = short.1 },
       short.2,

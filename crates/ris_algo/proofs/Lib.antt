@@ -1,7 +1,15 @@
 pub mod Along
+pub mod Certificates
 pub mod Cut
+pub mod Four
 pub mod Meaning
+pub mod Parents
+pub mod Rooted
+pub mod SafeReach
+pub mod SafeUpdates
 pub mod Small
+pub mod Standing
 pub mod Stops
+pub mod Unique
 pub mod Vertices
 pub mod Walks

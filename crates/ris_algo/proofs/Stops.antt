@@ -1,16 +1,13 @@
 -- Walks with the vertices to which they come, one by one.
-use Rattle.std.proofs.Common.{◌≡◌, ℕ, suc, Bool, IsTrue, ◌⊎◌, inl, inr, List, [], ◌∷◌, length, refl, ap, sym, subst}
+use Rattle.std.proofs.Common.{◌≡◌, ℕ, suc, Bool, inl, inr, List, [], ◌∷◌, length, refl, ap, sym, subst}
 use Rattle.std.specs.List.{All}
 use Rattle.std.proofs.lemmas.List.Elements.{All-nil, All-cons}
+use Rattle.ris_base.specs.Forest.{Joins}
 use Rattle.ris_base.specs.Graph.{HasVertex, HasTriple, IsProper}
 use Rattle.ris_base.specs.Walk.{Leads}
 use Rattle.ris_base.specs.declared.graphs.PlainGraph.{PlainGraph}
 use Rattle.ris_base.specs.declared.graphs.Triple.{Triple}
-use Rattle.ris_algo.proofs.Walks.{proper_triple}
-
--- a walk may go along t from a to b
-abbrev pub Joins : Bool → Triple → ℕ → ℕ → Type 0
-Joins both t a b = ((t.source ≡ a) × (t.target ≡ b)) ⊎ (IsTrue both × (t.target ≡ a) × (t.source ≡ b))
+use Rattle.ris_algo.proofs.Walks.{Joins-vertices}
 
 -- these triples of the graph, joined end to start, lead from a by these vertices, one for each triple, to x, which is the last of them
 abbrev pub Visits : PlainGraph → Bool → ℕ → List Triple → List ℕ → ℕ → Type 0
@@ -56,10 +53,5 @@ Visits-vertices {g = g} proper both a [] [] x h = All-nil (λ y. HasVertex g y)
 Visits-vertices proper both a [] (b ∷ stops) x h = absurd h
 Visits-vertices proper both a (t ∷ rest) [] x h = absurd h
 Visits-vertices {g = g} proper both a (t ∷ rest) (b ∷ stops) x h =
-    let joins = proper_triple proper t h.0 in
-    All-cons (λ y. HasVertex g y) b stops
-    (elim h.1 [
-      | inl on ↦ subst (λ (n : ℕ). HasVertex g n) on.1 joins.target
-      | inr back ↦ subst (λ (n : ℕ). HasVertex g n) back.2 joins.source
-    ])
+    All-cons (λ y. HasVertex g y) b stops (Joins-vertices proper both t a b h.0 h.1).1
     (Visits-vertices proper both b rest stops x h.2)

@@ -1,12 +1,16 @@
 ghost use Rattle.std.specs.Prelude.{◌≡◌, ◌<◌, ◌^◌, ℕ, Bool, Option};
 ghost use Rattle.ris_base.specs.declared.analyses.Spec.{Spec};
-ghost use Rattle.ris_algo.specs.Laws.{IsMonotone, IsAnalysis};
+ghost use Rattle.ris_base.specs.declared.graphs.Format.{Format};
+ghost use Rattle.ris_algo.specs.Laws.{IsMonotone, IsOfTable, IsAnalysis};
 
 /// An analysis whose values are reached by steps along triples from the start values of some vertices: a monotone
 /// path problem, as in Dijkstra's algorithm for shortest paths and its variants for widest paths and least labels.
 pub trait Monotone {
     /// The analysis that this is.
     ghost spec: { Self → Spec };
+
+    /// The formats of the graphs for which this is that analysis.
+    ghost suits: { Self → Format → Type 0 };
 
     /// The start value of a vertex number.
     ghost start_of: { Self → ℕ → Option ℕ };
@@ -38,5 +42,7 @@ pub trait Monotone {
 
     ghost laws: { (s : Self) → IsMonotone (start_of s) (step_of s) (better_of s) };
 
-    ghost meaning: { (s : Self) → IsAnalysis (spec s) (start_of s) (step_of s) (better_of s) BOTH_WAYS };
+    ghost of_table: { (s : Self) → IsOfTable (spec s) (suits s) (start_of s) (step_of s) (better_of s) BOTH_WAYS };
+
+    ghost meaning: { (s : Self) → IsAnalysis (spec s) (suits s) (start_of s) (step_of s) (better_of s) BOTH_WAYS };
 }

@@ -1,7 +1,8 @@
 -- What the definition of a field's number says in each case.
-use Rattle.std.proofs.Common.{◌≡◌, ℕ, ◌+◌, ◌-◌, ◌*◌, ◌^◌, ◌<◌, ◌≤◌, true, false, List, [], ◌∷◌, length, Some, None, arith, refl, subst}
+use Rattle.std.proofs.Common.{◌≡◌, ℕ, ◌+◌, ◌-◌, ◌*◌, ◌^◌, ◌<◌, ◌≤◌, true, false, List, [], ◌∷◌, length, Some, None, arith, lit<, refl, subst}
 use Rattle.std.specs.List.{list_all}
-use Rattle.std.proofs.lemmas.Grind.{common_steps}
+use Rattle.std.proofs.Math.Nat.{pow-le-pow_right}
+use Rattle.std.proofs.lemmas.Grind.{common_steps, pow_more}
 use Rattle.ris_base.specs.Number.{is_digit, spelled_behind, number_of}
 
 -- more digits make no smaller number
@@ -36,3 +37,14 @@ pub number_of-overflow : (field : List ℕ) (a d : ℕ) (ds : List ℕ) → spel
 number_of-overflow field a d ds same great =
     let more : 10 * a + (d - 48) ≤ spelled_behind 0 field = subst (λ (n : ℕ). 10 * a + (d - 48) ≤ n) same (spelled_behind-least (10 * a + (d - 48)) ds) in
     number_of-great field (omega arith)
+
+-- one digit more behind a number of k digits
+pub more_digits : (a d k : ℕ) → a < 10 ^ k → d < 10 → 10 * a + d < 10 ^ (k + 1)
+more_digits a d k h b = let power = pow_more 10 k in omega (arith, power)
+
+-- up to 19 digits stay below 2^64
+pub few_digits : (a k : ℕ) → a < 10 ^ k → k ≤ 19 → a < 2 ^ 64
+few_digits a k h few =
+    let most : 10 ^ k ≤ 10 ^ 19 = pow-le-pow_right (lit< tt) few in
+    let least : 10 ^ 19 < 2 ^ 64 = lit< tt in
+    omega arith

@@ -1,27 +1,41 @@
 -- A transcript of a script: what its lines say, and how they are spelled.
-use Rattle.std.specs.Prelude.{◌≡◌, ℕ, Bool, false, sum_by, count_by, ◌+◌, ◌<◌, ◌^◌, List, [], ◌∷◌, ◌++◌, Option, Some, None, IsSome, ⊤, codes, decimal}
+use Rattle.std.specs.Prelude.{◌≡◌, ℕ, IsTrue, sum_by, count_by, ◌+◌, ◌<◌, ◌^◌, List, [], ◌∷◌, ◌++◌, length, map, slice_get, slice_index_or, Option, Some, None, IsSome, ⊤, codes, decimal}
 use Rattle.std.specs.Option.{option_and_then}
 use Rattle.std.specs.List.{AllByRecursion, join_with_byte, filter_map}
+use Rattle.ris_base.specs.Answers.{Setup}
+use Rattle.ris_base.specs.Legal.{Asked, IsLegal}
 use Rattle.ris_base.specs.Lists.{EachPair}
 use Rattle.ris_base.specs.Lines.{front, mark_count}
-use Rattle.ris_base.specs.Legal.{Setting, item_at, IsLegal}
+use Rattle.ris_base.specs.Replies.{can_have, is_refused}
 use Rattle.ris_base.specs.Script.{opening_of}
 use Rattle.ris_base.specs.declared.analyses.Spec.{Spec}
 use Rattle.ris_base.specs.declared.analyses.Value.{Value}
 use Rattle.ris_base.specs.declared.analyses.Value.TheVariants.{Absent, Unreached, Num}
 use Rattle.ris_base.specs.declared.commands.Command.{Command}
 use Rattle.ris_base.specs.declared.commands.Command.TheVariants as command
+use Rattle.ris_base.specs.declared.forests.Parent.{Parent}
+use Rattle.ris_base.specs.declared.forests.Parent.TheVariants as parent
 use Rattle.ris_base.specs.declared.lines.Line.{Line}
 use Rattle.ris_base.specs.declared.lines.Line.TheVariants as line
 use Rattle.ris_base.specs.declared.replies.LogLine.{LogLine}
-use Rattle.ris_base.specs.declared.replies.LogLine.TheVariants.{Reply, Answer}
-use Rattle.ris_base.specs.declared.replies.Outcome.TheVariants.{Placed}
+use Rattle.ris_base.specs.declared.replies.LogLine.TheVariants.{Reply, Answer, Denied}
+use Rattle.ris_base.specs.declared.replies.Outcome.{Outcome}
+use Rattle.ris_base.specs.declared.replies.Outcome.TheVariants as outcome
+use Rattle.ris_base.specs.declared.replies.ReadAnswer.{ReadAnswer}
 use Rattle.ris_base.specs.declared.replies.ReadAnswer.TheVariants as answer
+use Rattle.ris_base.specs.declared.replies.ReadRefusal.{ReadRefusal}
+use Rattle.ris_base.specs.declared.replies.ReadRefusal.TheVariants as denial
+use Rattle.ris_base.specs.declared.replies.Refusal.{Refusal}
+use Rattle.ris_base.specs.declared.replies.Refusal.TheVariants as refusal
 use Rattle.ris_base.specs.declared.scripts.Script.{Script}
 
--- a journal line, `journal,entry,<place>,<session>,<seq>`: the entry at a place is this command of this session
+-- a journal line, `journal,entry,<place>,<session>,<seq>`: the entry at a place is this command of this session; and
+-- `journal,mark,<front>,<session>,<seq>` and `journal,leave,<front>,<session>,<seq>`: a mark and a leave, with so many entries
+-- before it
 pub data JournalLine : Type 0 where
   EntryLine : (place session seq : ℕ) → JournalLine
+  MarkLine : (front session seq : ℕ) → JournalLine
+  LeaveLine : (front session seq : ℕ) → JournalLine
 
 -- the last line: how many entries, marks, refused replies and visits there were
 pub record Summary : Type 0 where
@@ -36,129 +50,192 @@ pub record Transcript : Type 0 where
   pub journal : List JournalLine
   pub summary : Summary
 
--- The spelling
+-- The fields of the lines
 
--- fields joined by commas, and a line feed
-abbrev pub line_of : List (List ℕ) → List ℕ
-line_of fields = join_with_byte 44 fields ++ 10 ∷ []
+-- a field of a line: a fixed word, or a number
+pub data Field : Type 0 where
+  Word : (bytes : List ℕ) → Field
+  Number : (number : ℕ) → Field
 
-abbrev pub value_text : Value → List ℕ
-value_text Absent = codes "absent"
-value_text Unreached = codes "unreached"
-value_text (Num c) = decimal c
+abbrev pub value_field : Value → Field
+value_field Absent = Word (codes "absent")
+value_field Unreached = Word (codes "unreached")
+value_field (Num c) = Number c
+
+abbrev pub parent_fields : Parent → List Field
+parent_fields parent.None = Word (codes "none") ∷ []
+parent_fields (parent.From vertex source target weight) = Number vertex ∷ Number source ∷ Number target ∷ Number weight ∷ []
+
+-- how many vertices, and then the vertices
+abbrev pub vertex_fields : List ℕ → List Field
+vertex_fields vertices = Number (length vertices) ∷ map Number vertices
+
+abbrev pub refusal_fields : Refusal → List Field
+refusal_fields (refusal.NoVertex front part id) = Word (codes "novertex") ∷ Number front ∷ Number part ∷ Number id ∷ []
+refusal_fields (refusal.NoEdge front part) = Word (codes "noedge") ∷ Number front ∷ Number part ∷ []
+refusal_fields (refusal.Limit front part given) = Word (codes "limit") ∷ Number front ∷ Number part ∷ Number given ∷ []
+refusal_fields refusal.NoMemory = Word (codes "nomem") ∷ []
+
+-- what no command can have as its reply has no fields
+abbrev pub outcome_fields : Outcome → List Field
+outcome_fields (outcome.Placed place) = Word (codes "place") ∷ Number place ∷ []
+outcome_fields (outcome.Marked front upto) = Word (codes "marked") ∷ Number front ∷ Number upto ∷ []
+outcome_fields (outcome.Left front) = Word (codes "left") ∷ Number front ∷ []
+outcome_fields (outcome.Refused refused) = refusal_fields refused
+outcome_fields (outcome.NotYet front) = Word (codes "notyet") ∷ Number front ∷ []
+outcome_fields outcome.Closed = []
+
+abbrev pub answer_fields : ReadAnswer → List Field
+answer_fields (answer.Value front place value) = Word (codes "value") ∷ Number front ∷ Number place ∷ value_field value ∷ []
+answer_fields (answer.Parent front place parent) = Word (codes "parent") ∷ Number front ∷ Number place ∷ parent_fields parent
+answer_fields (answer.Path front place vertices) = Word (codes "path") ∷ Number front ∷ Number place ∷ vertex_fields vertices
+answer_fields (answer.Modified front place vertices) = Word (codes "modified") ∷ Number front ∷ Number place ∷ vertex_fields vertices
+answer_fields (answer.Current front floor) = Word (codes "current") ∷ Number front ∷ Number floor ∷ []
+
+abbrev pub denial_fields : ReadRefusal → List Field
+denial_fields (denial.NotYet front) = Word (codes "notyet") ∷ Number front ∷ []
+denial_fields (denial.Released front floor) = Word (codes "released") ∷ Number front ∷ Number floor ∷ []
+denial_fields denial.NoMemory = Word (codes "nomem") ∷ []
+denial_fields denial.Shut = []
 
 -- the fields of a reply behind the session and the number of the command
-abbrev pub reply_fields : LogLine → List (List ℕ)
-reply_fields (Reply (Placed place)) = codes "place" ∷ decimal place ∷ []
-reply_fields (Answer (answer.Value front place value)) = codes "value" ∷ decimal front ∷ decimal place ∷ value_text value ∷ []
+abbrev pub fields : LogLine → List Field
+fields (Reply outcome) = outcome_fields outcome
+fields (Answer answered) = answer_fields answered
+fields (Denied denied) = denial_fields denied
 
 -- the reply lines of session s to its commands from number q on
-unfoldable pub log_text : ℕ → ℕ → List LogLine → List ℕ
-log_text s q [] = []
-log_text s q (reply ∷ replies) = line_of (decimal s ∷ decimal q ∷ reply_fields reply) ++ log_text s (q + 1) replies
+unfoldable pub log_lines : ℕ → ℕ → List LogLine → List (List Field)
+log_lines s q [] = []
+log_lines s q (reply ∷ replies) = (Number s ∷ Number q ∷ fields reply) ∷ log_lines s (q + 1) replies
 
 -- the reply lines of the sessions from number s on
-unfoldable pub replies_text : ℕ → List (List LogLine) → List ℕ
-replies_text s [] = []
-replies_text s (log ∷ logs) = log_text s 0 log ++ replies_text (s + 1) logs
+unfoldable pub reply_lines : ℕ → List (List LogLine) → List (List Field)
+reply_lines s [] = []
+reply_lines s (log ∷ logs) = log_lines s 0 log ++ reply_lines (s + 1) logs
 
-abbrev pub journal_fields : JournalLine → List (List ℕ)
-journal_fields (EntryLine place session seq) = codes "journal" ∷ codes "entry" ∷ decimal place ∷ decimal session ∷ decimal seq ∷ []
+abbrev pub journal_fields : JournalLine → List Field
+journal_fields (EntryLine place session seq) = Word (codes "journal") ∷ Word (codes "entry") ∷ Number place ∷ Number session ∷ Number seq ∷ []
+journal_fields (MarkLine front session seq) = Word (codes "journal") ∷ Word (codes "mark") ∷ Number front ∷ Number session ∷ Number seq ∷ []
+journal_fields (LeaveLine front session seq) = Word (codes "journal") ∷ Word (codes "leave") ∷ Number front ∷ Number session ∷ Number seq ∷ []
 
-unfoldable pub journal_text : List JournalLine → List ℕ
-journal_text [] = []
-journal_text (entry ∷ journal) = line_of (journal_fields entry) ++ journal_text journal
+abbrev pub summary_fields : Summary → List Field
+summary_fields s = Word (codes "summary") ∷ Number s.entries ∷ Number s.marks ∷ Number s.refused ∷ Number s.visits ∷ []
 
-abbrev pub summary_fields : Summary → List (List ℕ)
-summary_fields s = codes "summary" ∷ decimal s.entries ∷ decimal s.marks ∷ decimal s.refused ∷ decimal s.visits ∷ []
+-- all lines: the reply lines, then the journal lines, then the summary
+abbrev pub all_lines : Transcript → List (List Field)
+all_lines t = reply_lines 0 t.replies ++ map journal_fields t.journal ++ summary_fields t.summary ∷ []
 
--- the text of a transcript: the reply lines, then the journal lines, then the summary
-unfoldable pub spelling : Transcript → List ℕ
-spelling t = replies_text 0 t.replies ++ journal_text t.journal ++ line_of (summary_fields t.summary)
+-- The spelling
+
+-- a word stands as it is, and a number in decimal
+abbrev pub field_text : Field → List ℕ
+field_text (Word bytes) = bytes
+field_text (Number n) = decimal n
+
+-- fields joined by commas, and a line feed
+abbrev pub line_text : List Field → List ℕ
+line_text line = join_with_byte 44 (map field_text line) ++ 10 ∷ []
+
+-- one line after another
+unfoldable pub text_of : List (List Field) → List ℕ
+text_of [] = []
+text_of (line ∷ lines) = line_text line ++ text_of lines
+
+-- the text of a transcript
+abbrev pub spelling : Transcript → List ℕ
+spelling t = text_of (all_lines t)
+
+-- a number is below 2^64
+abbrev pub IsSmall : Field → Type 0
+IsSmall (Word bytes) = ⊤
+IsSmall (Number n) = n < 2 ^ 64
 
 -- Form
 
--- a reply is of a kind that the command can have
-abbrev pub CanHave : Command → LogLine → Type 0
-CanHave (command.Change parts) (Reply (Placed place)) = ⊤
-CanHave (command.Change parts) (Answer answer) = ⊥
-CanHave (command.Value version a x) (Answer (answer.Value front place value)) = ⊤
-CanHave (command.Value version a x) (Reply outcome) = ⊥
+-- the commands of each session, which a script numbers from 0 on
+unfoldable pub numbered_from : ℕ → List Command → List Asked
+numbered_from q [] = []
+numbered_from q (command ∷ commands) = record { seq = q; command = command } ∷ numbered_from (q + 1) commands
 
--- whether a reply is a refusal: no kind of reply is one yet
-abbrev pub is_refused : LogLine → Bool
-is_refused (Reply (Placed place)) = false
-is_refused (Answer (answer.Value front place value)) = false
+abbrev pub asked_in : List (List Command) → ℕ → List Asked
+asked_in lists s = numbered_from 0 (slice_index_or lists s [])
+
+-- the replies of each session
+abbrev pub replies_in : List (List LogLine) → ℕ → List LogLine
+replies_in logs s = slice_index_or logs s []
 
 -- the number of refused replies of all sessions
 abbrev pub refused_count : List (List LogLine) → ℕ
 refused_count logs = sum_by (count_by is_refused) logs
 
+-- the line of the serial list that a command of session s makes as an entry, as a mark and as a leave, where it can make one
+abbrev pub entry_by : ℕ → ℕ → Command → Option Line
+entry_by s q (command.Change parts) = Some (line.Entry (record { session = s; seq = q; parts = parts }))
+entry_by s q _ = None
+
+abbrev pub mark_by : ℕ → ℕ → Command → Option Line
+mark_by s q (command.Release upto) = Some (line.Mark s q upto)
+mark_by s q _ = None
+
+abbrev pub leave_by : ℕ → ℕ → Command → Option Line
+leave_by s q command.Leave = Some (line.Leave s q)
+leave_by s q _ = None
+
+-- the command number q of session s
+abbrev pub command_at : List (List Command) → ℕ → ℕ → Option Command
+command_at lists s q = slice_get (slice_index_or lists s []) q
+
 -- the line of the serial list that a journal line names, where its session and number name a command that can make one
 abbrev pub line_named : List (List Command) → JournalLine → Option Line
-line_named commands (EntryLine place session seq) = option_and_then (entry_by session seq) (item_at commands session seq)
-  where
-    entry_by : ℕ → ℕ → Command → Option Line
-    entry_by s q (command.Change parts) = Some (line.Entry (record { session = s; seq = q; parts = parts }))
-    entry_by s q (command.Value version a x) = None
+line_named lists (EntryLine place session seq) = option_and_then (entry_by session seq) (command_at lists session seq)
+line_named lists (MarkLine front session seq) = option_and_then (mark_by session seq) (command_at lists session seq)
+line_named lists (LeaveLine front session seq) = option_and_then (leave_by session seq) (command_at lists session seq)
 
 -- the serial list that a journal names
 abbrev pub lines_named : List (List Command) → List JournalLine → List Line
-lines_named commands journal = filter_map (line_named commands) journal
-
--- the numbers that a reply prints, and those that a journal line prints
-abbrev pub value_numbers : Value → List ℕ
-value_numbers Absent = []
-value_numbers Unreached = []
-value_numbers (Num c) = c ∷ []
-
-abbrev pub reply_numbers : LogLine → List ℕ
-reply_numbers (Reply (Placed place)) = place ∷ []
-reply_numbers (Answer (answer.Value front place value)) = front ∷ place ∷ value_numbers value
-
-abbrev pub journal_numbers : JournalLine → List ℕ
-journal_numbers (EntryLine place session seq) = place ∷ session ∷ seq ∷ []
-
-abbrev pub summary_numbers : Summary → List ℕ
-summary_numbers s = s.entries ∷ s.marks ∷ s.refused ∷ s.visits ∷ []
-
--- each of these numbers is below 2^64
-abbrev pub AreSmall : List ℕ → Type 0
-AreSmall numbers = AllByRecursion (λ n. n < 2 ^ 64) numbers
+lines_named lists journal = filter_map (line_named lists) journal
 
 -- there is one reply per command, of a kind that the command can have; each journal line names a command that can make such a
 -- line; the summary counts the entries, the marks and the refused replies; and each number is below 2^64
-pub record HasForm (commands : List (List Command)) (t : Transcript) : Type 0 where
-  pub replies : EachPair (EachPair CanHave) commands t.replies
-  pub journal : AllByRecursion (λ entry. IsSome (line_named commands entry)) t.journal
-  pub entries : t.summary.entries ≡ front (lines_named commands t.journal)
-  pub marks : t.summary.marks ≡ mark_count (lines_named commands t.journal)
+pub record HasForm (lists : List (List Command)) (t : Transcript) : Type 0 where
+  pub replies : EachPair (EachPair (λ command reply. IsTrue (can_have command reply))) lists t.replies
+  pub journal : AllByRecursion (λ j. IsSome (line_named lists j)) t.journal
+  pub entries : t.summary.entries ≡ front (lines_named lists t.journal)
+  pub marks : t.summary.marks ≡ mark_count (lines_named lists t.journal)
   pub refused : t.summary.refused ≡ refused_count t.replies
-  pub reply_numbers : AllByRecursion (λ log. AllByRecursion (λ reply. AreSmall (reply_numbers reply)) log) t.replies
-  pub journal_numbers : AllByRecursion (λ entry. AreSmall (journal_numbers entry)) t.journal
-  pub summary_numbers : AreSmall (summary_numbers t.summary)
+  pub small : AllByRecursion (AllByRecursion IsSmall) (all_lines t)
 
 -- Places
 
--- the entries of the journal, of which so many stand before it, have the places after that, one by one
+-- behind n entries, the entries of a journal have the places after that, one by one, and a mark or a leave has the number of
+-- entries before it
 unfoldable pub PlacesFrom : ℕ → List JournalLine → Type 0
 PlacesFrom n [] = ⊤
 PlacesFrom n (EntryLine place session seq ∷ journal) = (place ≡ n + 1) × PlacesFrom (n + 1) journal
+PlacesFrom n (MarkLine front session seq ∷ journal) = (front ≡ n) × PlacesFrom n journal
+PlacesFrom n (LeaveLine front session seq ∷ journal) = (front ≡ n) × PlacesFrom n journal
 
--- what a script and some analyses give a run
-abbrev pub setting_of : Script → List Spec → Setting
-setting_of script specs = record { opening = opening_of script; specs = specs; commands = script.commands }
+-- The whole
 
--- these lines are those of a transcript of the script: they have the form, the places are counted, and the replies are legal
--- for the serial list that the journal names
-pub record IsTranscriptOf (script : Script) (specs : List Spec) (t : Transcript) : Type 0 where
-  pub form : HasForm script.commands t
+-- these lines are those of a transcript of the commands of each session: they have the form, the places are counted, and the
+-- replies are legal for the serial list that the journal names
+pub record IsTranscriptOf (setup : Setup) (lists : List (List Command)) (t : Transcript) : Type 0 where
+  pub form : HasForm lists t
   pub places : PlacesFrom 0 t.journal
-  pub legal : IsLegal (setting_of script specs) t.replies (lines_named script.commands t.journal)
+  pub legal : IsLegal setup (asked_in lists) (replies_in t.replies) (lines_named lists t.journal)
 
--- the text is a transcript of the script, and its last number is this one: it spells lines that are those of one
-pub record IsTranscript (script : Script) (specs : List Spec) (visits : ℕ) (text : List ℕ) : Type 0 where
+-- the text is a transcript, and its last number is this one: it spells lines that are those of one
+pub record IsTranscriptIn (setup : Setup) (lists : List (List Command)) (visits : ℕ) (text : List ℕ) : Type 0 where
   pub lines : Transcript
   pub spelled : text ≡ spelling lines
-  pub right : IsTranscriptOf script specs lines
+  pub right : IsTranscriptOf setup lists lines
   pub last : lines.summary.visits ≡ visits
+
+-- what a script and some analyses give a run
+abbrev pub setup_of : Script → List Spec → Setup
+setup_of script specs = record { opening = opening_of script; specs = specs; sessions = script.sessions }
+
+-- the text is a transcript of the script with these analyses, and its last number is this one
+abbrev pub IsTranscript : Script → List Spec → ℕ → List ℕ → Type 0
+IsTranscript script specs visits text = IsTranscriptIn (setup_of script specs) script.commands visits text

@@ -1,5 +1,7 @@
 -- What an analysis gives a vertex number.
-use Rattle.std.specs.Prelude.{◌≡◌, ℕ, ◌+◌, max, List, [], ◌∷◌, length, slice_get, Some}
+use Rattle.std.specs.Prelude.{◌≡◌, ◌≢◌, ◌↔◌, ℕ, ◌+◌, max, List, [], ◌∷◌, length, slice_get, Some}
+use Rattle.std.specs.List.{Contains}
+use Rattle.std.specs.List.Sorted.{IsStrictlyIncreasing}
 use Rattle.ris_base.specs.Graph.{HasVertex}
 use Rattle.ris_base.specs.Walk.{Walk, IsWalk, worth, IsBetter}
 use Rattle.ris_base.specs.declared.graphs.PlainGraph.{PlainGraph}
@@ -28,3 +30,16 @@ number_bound (x ∷ xs) = max (x + 1) (number_bound xs)
 pub record AreValues (g : PlainGraph) (spec : Spec) (values : List Value) : Type 0 where
   pub all : length values ≡ number_bound g.vertices
   pub each : (x : ℕ) (value : Value) → slice_get values x ≡ Some value → IsValue g spec x value
+
+-- the value of x differs between two graphs
+pub record Moves (before now : PlainGraph) (spec : Spec) (x : ℕ) : Type 0 where
+  pub old : Value
+  pub new : Value
+  pub was : IsValue before spec x old
+  pub is : IsValue now spec x new
+  pub differs : old ≢ new
+
+-- the ascending list of exactly the vertex numbers whose values differ between two graphs
+pub record AreMoved (before now : PlainGraph) (spec : Spec) (xs : List ℕ) : Type 0 where
+  pub ascending : IsStrictlyIncreasing xs
+  pub each : (x : ℕ) → Contains xs x ↔ Moves before now spec x

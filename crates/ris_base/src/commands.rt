@@ -7,12 +7,18 @@ pub enum Version {
     At(u64),
 }
 
-/// A command of a session: a request to change the graph, or a read of a vertex's value by version, number of the
-/// analysis, and vertex number.
+/// A command of a session: a request to change the graph; a release of the versions below a place; a leave; or a read,
+/// by version, number of the analysis, and vertex number.
 #[derive(Drop)]
 pub enum Command {
     Change(Parts),
+    Release(u64),
+    Leave,
     Value(Version, u32, u64),
+    Parent(Version, u32, u64),
+    Path(Version, u32, u64),
+    Modified(Version, u32),
+    Current,
 }
 
 /// The commands of one session, in order.

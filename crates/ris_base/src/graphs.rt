@@ -3,6 +3,28 @@ ghost use Rattle.std.specs.Prelude.{◌≡◌, ◌<◌, ◌≤◌, SomeIff};
 use crate::{Sequence, VERTEX_LIMIT};
 use std::marker::Model;
 
+/// The format of a script and of the graphs that are made from it. They differ in the greatest weight.
+#[derive(Clone, Copy, Debug, PartialEq, Eq)]
+pub enum Format {
+    One,
+    Two,
+}
+
+impl Format {
+    ghost use Rattle.ris_base.specs.Limits.{greatest_of};
+
+    /// The greatest weight of a triple: 4,294,967,295 in format one, 68,719,476,735 in format two.
+    pub fn max_weight(self) -> u64
+        ensures greatest { result ≡ greatest_of self }
+        ensures small { result < 68719476736 }
+    {
+        match self {
+            Format::One => 4_294_967_295,
+            Format::Two => 68_719_476_735,
+        }
+    }
+}
+
 /// The number of a vertex, below 4,194,304.
 #[derive(Clone, Copy, Debug, PartialEq, Eq)]
 pub struct VertexId {
@@ -57,9 +79,10 @@ pub type Vertices = Sequence<u32>;
 /// A list of triples.
 pub type Triples = Sequence<Triple>;
 
-/// The plain graph of the definitions: its vertices, and its triples, in which copies are repeats.
+/// The plain graph of the definitions: its format, its vertices, and its triples, in which copies are repeats.
 #[derive(Drop)]
 pub struct PlainGraph {
+    pub format: Format,
     pub vertices: Vertices,
     pub triples: Triples,
 }

@@ -1,4 +1,4 @@
-ghost use Rattle.std.specs.Prelude.{◌≡◌, ◌+◌, ◌*◌, ◌<◌, ◌^◌, SomeIff};
+ghost use Rattle.std.specs.Prelude.{◌≡◌, ◌+◌, ◌*◌, ◌<◌, ◌≤◌, ◌^◌, length, SomeIff};
 ghost use Rattle.ris_base.specs.Number.{number_of};
 
 /// The number that a field spells: 1 to 20 decimal digits, leading zeros allowed, with a value below 2^64. `None`
@@ -9,6 +9,35 @@ pub fn read_number(field: &[u8]) -> Option<u64>
     if field.is_empty() || field.len() > 20 {
         return None;
     }
+    if field.len() < 20 {
+        read_short(field)
+    } else {
+        read_long(field)
+    }
+}
+
+/// The same, of fewer than 20 digits, whose value is always below 2^64.
+fn read_short(field: &[u8]) -> Option<u64>
+    requires filled { 0 < length field.now }
+    requires short { length field.now < 20 }
+    ensures { result ≡ number_of field.now }
+{
+    let mut number = 0u64;
+    for digit in field {
+        if !digit.is_ascii_digit() {
+            return None;
+        }
+        number = 10 * number + u64::from(*digit - b'0');
+    }
+    Some(number)
+}
+
+/// The same, of up to 20 digits.
+fn read_long(field: &[u8]) -> Option<u64>
+    requires filled { 0 < length field.now }
+    requires long { length field.now ≤ 20 }
+    ensures { result ≡ number_of field.now }
+{
     let mut number = 0u64;
     for digit in field {
         if !digit.is_ascii_digit() {

@@ -1,4 +1,7 @@
-use crate::{PartsBuilder, PartsFault, Sequence, Update, VertexId, Words, read_number};
+use crate::{
+    Entry, ForestRow, ForestRows, Format, Parent, PartsBuilder, PartsFault, Sequence, Update,
+    Value, VertexId, Words, read_number,
+};
 use std::test::Fail;
 
 #[test]
@@ -45,10 +48,38 @@ fn parts_end_at_their_limit(rt: HostRuntime) -> Result<(), Fail> {
         Err(PartsFault::PartsFull)
     );
     let parts = builder.close().ok_or("no parts")?;
+    let entry = Entry {
+        session: 7,
+        seq: 3,
+        parts,
+    };
+    let copy = entry.copy(rt.alloc())?;
     assert_eq!(rt;
-        (parts.len(), parts.get(1_023).copied()),
-        (1_024, Some(Update::AddV { x: 1_023 }))
+        (
+            copy.session,
+            copy.seq,
+            copy.parts.len(),
+            copy.parts.get(1_023).copied(),
+            copy.parts.get(1_024).copied()
+        ),
+        (7, 3, 1_024, Some(Update::AddV { x: 1_023 }), None)
     );
+    Ok(())
+}
+
+#[test]
+fn rows_of_a_forest_ascend(rt: HostRuntime) -> Result<(), Fail> {
+    let row = |vertex| ForestRow {
+        vertex,
+        value: Value::Num(u64::from(vertex)),
+        parent: Parent::None,
+    };
+    let mut rows = ForestRows::new(rt.alloc());
+    rows.push(row(2))?;
+    rows.push(row(5))?;
+    assert_eq!(rt; (rows.len(), rows.get(1).copied()), (2, Some(row(5))));
+    assert_eq!(rt; rows.take_first(), Some(row(2)));
+    assert_eq!(rt; rows.len(), 1);
     Ok(())
 }
 
@@ -57,14 +88,30 @@ fn limits_are_met_exactly(rt: HostRuntime) {
     assert_eq!(rt; VertexId::new(4_194_303).map(|v| v.get()), Some(4_194_303));
     assert!(rt; VertexId::new(4_194_304).is_none());
     let edge = |u, v, w| Update::AddE { u, v, w };
-    for (update, given) in [
-        (edge(4_194_303, 0, 4_294_967_295), None),
-        (edge(4_194_304, 4_194_305, 4_294_967_296), Some(4_194_304)),
-        (edge(0, 4_194_305, 4_294_967_296), Some(4_194_305)),
-        (edge(0, 0, 4_294_967_296), Some(4_294_967_296)),
-        (Update::DelV { x: 4_194_304 }, Some(4_194_304)),
+    let other = |w, w2| Update::SetW { u: 0, v: 1, w, w2 };
+    for (format, update, given) in [
+        (Format::One, edge(4_194_303, 0, 4_294_967_295), None),
+        (
+            Format::One,
+            edge(4_194_304, 4_194_305, 4_294_967_296),
+            Some(4_194_304),
+        ),
+        (
+            Format::One,
+            edge(0, 4_194_305, 4_294_967_296),
+            Some(4_194_305),
+        ),
+        (Format::One, edge(0, 0, 4_294_967_296), Some(4_294_967_296)),
+        (Format::Two, edge(0, 0, 68_719_476_735), None),
+        (Format::Two, other(4, 68_719_476_736), Some(68_719_476_736)),
+        (
+            Format::One,
+            other(4_294_967_297, 4_294_967_296),
+            Some(4_294_967_297),
+        ),
+        (Format::Two, Update::DelV { x: 4_194_304 }, Some(4_194_304)),
     ] {
-        assert_eq!(rt; update.within_limits().err(), given);
+        assert_eq!(rt; update.within_limits(format).err(), given);
     }
 }
 

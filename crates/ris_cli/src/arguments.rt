@@ -1,4 +1,4 @@
-ghost use Rattle.std.specs.Prelude.{◌≡◌, ◌↔◌, map, drop, IfOk, string_bytes};
+ghost use Rattle.std.specs.Prelude.{◌≡◌, map, IfOk, string_bytes};
 ghost use Rattle.std.specs.IoError.{error_kind};
 ghost use Rattle.std.specs.Vec.Iter.{into_iter_items};
 ghost use Rattle.ris_base.specs.Script.{Fault};
@@ -10,7 +10,7 @@ use ris_io::Sink;
 use ris_replay::put_fault;
 use std::alloc::Global;
 use std::env;
-use std::env::{Args, Env};
+use std::env::{Args, Env, FillError};
 use std::io::{Error, ErrorKind};
 
 /// Why the words of a command line can't be had: an argument isn't UTF-8, or memory ran out.
@@ -66,21 +66,36 @@ fn words_of(alloc: Global, args: Args) -> Result<Words, NoMemory>
     Ok(words)
 }
 
-// The words of these arguments but for the first, which is the program's name.
-fn words_behind_name(alloc: Global, mut args: Args) -> Result<Words, NoMemory>
-    ensures { IfOk result (λ words. words ≡ map string_bytes (drop 1 (into_iter_items args))) }
-{
-    let _ = args.next();
-    words_of(alloc, args)
+// An environment whose arguments are those behind the program's name, which is argument 0 and need not be text.
+#[derive(Drop)]
+struct BehindName<'a, R> {
+    inner: &'a R,
 }
 
-/// The words of the command line, without the program's name.
+impl<R: Env> Env for BehindName<'_, R> {
+    fn arg(&self, i: usize, buf: &mut [u8]) -> Result<usize, FillError> {
+        match i.checked_add(1) {
+            Some(next) => self.inner.arg(next, buf),
+            None => Err(FillError::NotPresent),
+        }
+    }
+
+    fn var(&self, name: &str, buf: &mut [u8]) -> Result<usize, FillError> {
+        self.inner.var(name, buf)
+    }
+
+    fn var_at(&self, i: usize, buf: &mut [u8]) -> Result<usize, FillError> {
+        self.inner.var_at(i, buf)
+    }
+}
+
+/// The words of the command line, without the program's name, which may be any bytes.
 ///
 /// - `NotText`: an argument isn't UTF-8.
 /// - `NoMemory`: there was no memory for them.
 pub fn read_words(rt: &(impl Env + AllocGlobal)) -> Result<Words, Refusal> {
-    let args = env::args(rt)?;
-    Ok(words_behind_name(rt.alloc(), args)?)
+    let args = env::args(&(BehindName { inner: rt }, rt.alloc()))?;
+    Ok(words_of(rt.alloc(), args)?)
 }
 
 /// Writes the line of a refusal to `faults`, and answers its status. Where a write fails, a front of the line stands there.
@@ -98,7 +113,6 @@ mod tests {
     use super::*;
     use ris_base::Bytes;
     use ris_io::{Calls, MemSink};
-    use std::env::FillError;
     use std::test::Fail;
 
     // A command line.
@@ -131,7 +145,7 @@ mod tests {
     #[test]
     fn the_name_is_no_word(rt: HostRuntime) -> Result<(), Fail> {
         let line = Line {
-            args: &[b"ris", b"replay", b""],
+            args: &[b"\xff/ris", b"replay", b""],
         };
         let words = read_words(&(line, rt.alloc()))?;
         assert_eq!(rt; words.len(), 2);

@@ -3,34 +3,16 @@
 #![tactic(auto)]
 
 mod arguments;
+mod programs;
 mod tally;
 
-use arguments::{read_words, refuse};
-use ris_base::FreeGate;
+use programs::program;
 use ris_io::{StdSink, StdSource};
-use ris_replay::run;
 use std::process::ExitCode;
-use tally::Tally;
 
 fn main(rt: HostRuntime) -> ExitCode {
     let mut input = StdSource::new(rt.stdin());
     let mut out = StdSink::new(rt.stdout());
     let mut faults = StdSink::new(rt.stderr());
-    let status = match read_words(&rt) {
-        Ok(words) => {
-            let mut meter = Tally::new();
-            run(
-                &rt,
-                rt.alloc(),
-                &words,
-                &mut input,
-                &mut out,
-                &mut faults,
-                &mut meter,
-                &FreeGate,
-            )
-        }
-        Err(refusal) => refuse(refusal, &mut faults),
-    };
-    ExitCode::from(status.code())
+    ExitCode::from(program(&rt, &mut input, &mut out, &mut faults))
 }

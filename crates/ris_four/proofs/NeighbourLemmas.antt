@@ -1,17 +1,14 @@
 -- Facts on the lists of neighbours.
-use Rattle.std.proofs.Common.{◌≡◌, ℕ, ◌<◌, ◌==◌, ◌&&◌, ◌⊎◌, zero, suc, Bool, true, false, IsTrue, if◌then◌else◌, List, [], ◌∷◌, ◌++◌, length, map, get_or, set, arith, refl, sym, ◌∙◌, ap, inl, inr, append_assoc, get_or-set_same, get_or-set_other, Vec, Global}
+use Rattle.std.proofs.Common.{◌≡◌, ℕ, ◌<◌, ◌==◌, ◌&&◌, zero, suc, Bool, true, false, if◌then◌else◌, List, [], ◌∷◌, ◌++◌, length, map, get_or, set, arith, refl, sym, ◌∙◌, ap, inl, inr, append_assoc, get_or-set_same, get_or-set_other, Vec, Global}
 use Rattle.std.specs.List.{Contains}
 use Rattle.std.proofs.lemmas.List.{append-nil, map-set, length-map, get_or-map, length-set}
 use Rattle.std.proofs.lemmas.List.Concat.{flat_map-append}
 use Rattle.std.proofs.lemmas.List.Elements.{Contains-append_left, Contains-append_right, Contains-append_cases}
 use Rattle.std.proofs.lemmas.Bool.{cases_eq, eqb-true, eq-eqb, ne_eqb}
+use Rattle.ris_base.specs.Forest.{Joins}
 use Rattle.ris_base.specs.declared.graphs.Triple.{Triple}
 use Rattle.ris_four.specs.declared.neighbours.Neighbour.{Neighbour}
 use Rattle.ris_four.specs.Neighbours.{neighbours_at, neighbours_by, neighbours_to, AreNeighbours, Gain}
-
--- t leads from u to x
-abbrev pub IsArc : Bool → Triple → ℕ → ℕ → Type 0
-IsArc both t u x = ((t.source ≡ u) × (t.target ≡ x)) ⊎ (IsTrue both × (t.target ≡ u) × (t.source ≡ x))
 
 abbrev items : Vec Neighbour Global → List Neighbour
 items v = v.items
@@ -90,7 +87,7 @@ one_if-contains : (b : Bool) (m : Neighbour) → b ≡ true → Contains (one_if
 one_if-contains true m e = (0, omega arith, refl)
 one_if-contains false m e = absurd (cc)
 
-from_one : (both : Bool) (x : ℕ) (t : Triple) (n : Neighbour) → Contains (neighbours_by both x t) n → (t.weight ≡ n.weight) × IsArc both t n.other x
+from_one : (both : Bool) (x : ℕ) (t : Triple) (n : Neighbour) → Contains (neighbours_by both x t) n → (t.weight ≡ n.weight) × Joins both t n.other x
 from_one both x t n h =
     let forth : Neighbour = record { other = t.source; weight = t.weight } in
     let back : Neighbour = record { other = t.target; weight = t.weight } in
@@ -105,11 +102,11 @@ from_one both x t n h =
           )
     ]
 
-to_one : (both : Bool) (x u : ℕ) (t : Triple) → IsArc both t u x → Contains (neighbours_by both x t) (record { other = u; weight = t.weight })
-to_one both x u t arc =
+to_one : (both : Bool) (x u : ℕ) (t : Triple) → Joins both t u x → Contains (neighbours_by both x t) (record { other = u; weight = t.weight })
+to_one both x u t joins =
     let forth : Neighbour = record { other = t.source; weight = t.weight } in
     let back : Neighbour = record { other = t.target; weight = t.weight } in
-    elim arc [
+    elim joins [
       | inl a ↦ rw (sym a.0)
           (Contains-append_left (one_if (t.target == x) forth) (one_if (both && (t.source == x)) back) forth
           (one_if-contains (t.target == x) forth (eq-eqb t.target x a.1)))
@@ -120,7 +117,7 @@ to_one both x u t arc =
 
 -- each listed neighbour stands for a triple
 pub neighbours_to-sound : (both : Bool) (x : ℕ) (triples : List Triple) (n : Neighbour) → Contains (neighbours_to both x triples) n
-    → (t : Triple) × Contains triples t × (t.weight ≡ n.weight) × IsArc both t n.other x
+    → (t : Triple) × Contains triples t × (t.weight ≡ n.weight) × Joins both t n.other x
 neighbours_to-sound both x [] n h = let lt = h.1 in absurd (omega arith)
 neighbours_to-sound both x (t ∷ rest) n h =
     elim (Contains-append_cases (neighbours_by both x t) (neighbours_to both x rest) n h) [
@@ -131,16 +128,16 @@ neighbours_to-sound both x (t ∷ rest) n h =
     ]
 
 -- and each triple that leads to x is listed
-pub neighbours_to-complete : (both : Bool) (x u : ℕ) (triples : List Triple) (t : Triple) → Contains triples t → IsArc both t u x
+pub neighbours_to-complete : (both : Bool) (x u : ℕ) (triples : List Triple) (t : Triple) → Contains triples t → Joins both t u x
     → Contains (neighbours_to both x triples) (record { other = u; weight = t.weight })
-neighbours_to-complete both x u [] t h arc = let lt = h.1 in absurd (omega arith)
-neighbours_to-complete both x u (s ∷ rest) t h arc =
+neighbours_to-complete both x u [] t h joins = let lt = h.1 in absurd (omega arith)
+neighbours_to-complete both x u (s ∷ rest) t h joins =
     elim (Contains-append_cases (s ∷ []) rest t h) [
       | inl a ↦
           let same = single_is s t a in
-          Contains-append_left (neighbours_by both x s) (neighbours_to both x rest) _ (rw same (to_one both x u t arc))
+          Contains-append_left (neighbours_by both x s) (neighbours_to both x rest) _ (rw same (to_one both x u t joins))
       | inr b ↦
-          Contains-append_right (neighbours_by both x s) (neighbours_to both x rest) _ (neighbours_to-complete both x u rest t b arc)
+          Contains-append_right (neighbours_by both x s) (neighbours_to both x rest) _ (neighbours_to-complete both x u rest t b joins)
     ]
 
 -- the list at a place

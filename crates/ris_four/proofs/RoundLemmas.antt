@@ -7,19 +7,12 @@ use Rattle.std.proofs.lemmas.List.Elements.{Contains-append_cases}
 use Rattle.ris_base.specs.declared.analyses.Value.{Value}
 use Rattle.ris_base.specs.declared.analyses.Value.TheVariants.{Absent, Unreached, Num}
 use Rattle.ris_algo.specs.Laws.{IsMonotone}
-use Rattle.ris_algo.proofs.Along.{not_better_transitive}
+use Rattle.ris_algo.proofs.Along.{not_better-back, not_better_transitive}
 use Rattle.ris_four.specs.declared.neighbours.Neighbour.{Neighbour}
 use Rattle.ris_four.specs.Rounds.{value_at, better_value, improved_value, best_value, next_value, next_values, values_after}
 use Rattle.ris_four.proofs.NeighbourLemmas.{single_is}
 
 module _ (start : ℕ → Option ℕ) (step : ℕ → ℕ → ℕ) (better : ℕ → ℕ → Bool) (laws : IsMonotone start step better) where
-  not_better-back : (a b : ℕ) → better a b ≡ true → better b a ≡ false
-  not_better-back a b h = go (better b a) refl
-    where
-      go : (p : Bool) → better b a ≡ p → better b a ≡ false
-      go false e = e
-      go true e = let round = laws.transitive a b a h e in let never = laws.irreflexive a in absurd (cc)
-
   better_value-from : (present : Value) (c : ℕ) → (better_value step better present c ≡ present) ⊎ (better_value step better present c ≡ Num c)
   better_value-from Absent c = inr refl
   better_value-from Unreached c = inr refl
@@ -33,7 +26,7 @@ module _ (start : ℕ → Option ℕ) (step : ℕ → ℕ → ℕ) (better : ℕ
   better_value-kept b c = go (better c b) refl
     where
       go : (p : Bool) → better c b ≡ p → (r : ℕ) × ((if p then Num c else Num b) ≡ Num r) × (better b r ≡ false)
-      go true e = (c, refl, not_better-back c b e)
+      go true e = (c, refl, not_better-back laws c b e)
       go false e = (b, refl, laws.irreflexive b)
 
   better_value-offers : (present : Value) (c : ℕ) → (r : ℕ) × (better_value step better present c ≡ Num r) × (better c r ≡ false)

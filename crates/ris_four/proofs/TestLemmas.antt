@@ -3,6 +3,7 @@ use Rattle.std.proofs.Common.{◌≡◌, ℕ, ◌+◌, ◌-◌, ◌<◌, ◌≤�
 use Rattle.std.specs.List.{All, Contains, range_with_len}
 use Rattle.std.proofs.lemmas.List.FromFn.{get_or-range_with_len, length-range_with_len}
 use Rattle.ris_base.specs.Graph.{IsProper}
+use Rattle.ris_base.specs.Limits.{greatest_of}
 use Rattle.ris_base.specs.declared.graphs.PlainGraph.{PlainGraph}
 
 range_more : (a n : ℕ) → range_with_len a (suc n) ≡ range_with_len a n ++ (a + n) ∷ []
@@ -26,7 +27,7 @@ range_contains a n x low high =
 
 -- consecutive vertices below the limit, and triples between them, are a proper graph
 pub IsProper-range : (a b : ℕ) (g : PlainGraph) → a ≤ b → b ≤ 4194304 → g.vertices ≡ range_with_len a (b - a)
-    → All (λ t. (a ≤ t.source) × (t.source < b) × (a ≤ t.target) × (t.target < b) × (t.weight ≤ 4294967295)) g.triples → IsProper g
+    → All (λ t. (a ≤ t.source) × (t.source < b) × (a ≤ t.target) × (t.target < b) × (t.weight ≤ greatest_of g.format)) g.triples → IsProper g
 IsProper-range a b g order limit is within =
     let n = b - a in
     let len = length-range_with_len a n in

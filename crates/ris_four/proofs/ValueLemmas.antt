@@ -6,9 +6,11 @@ use Rattle.std.proofs.lemmas.Bool.{cases_lt}
 use Rattle.std.proofs.lemmas.List.{length_push}
 use Rattle.std.proofs.lemmas.List.Elements.{All-contains, All-from_get_or, Contains-get_or}
 use Rattle.std.proofs.lemmas.Option.{get_or_from_slice_get}
+use Rattle.ris_base.specs.Forest.{Joins}
 use Rattle.ris_base.specs.Graph.{HasVertex, HasTriple, IsProper, IsProperTriple}
 use Rattle.ris_base.specs.Walk.{Walk, Leads, IsWalk, worth, both_ways}
 use Rattle.ris_base.specs.Value.{IsValue, number_bound, AreValues}
+use Rattle.ris_base.specs.declared.graphs.Format.{Format}
 use Rattle.ris_base.specs.declared.graphs.PlainGraph.{PlainGraph}
 use Rattle.ris_base.specs.declared.graphs.Triple.{Triple}
 use Rattle.ris_base.specs.declared.analyses.Spec.{Spec}
@@ -18,10 +20,10 @@ use Rattle.ris_base.specs.declared.analyses.Value.TheVariants.{Absent, Unreached
 use Rattle.ris_algo.specs.Laws.{IsMonotone, IsAnalysis}
 use Rattle.ris_algo.proofs.Along.{not_better_transitive}
 use Rattle.ris_algo.proofs.Cut.{short_walk}
-use Rattle.ris_algo.proofs.Meaning.{start_from_first, first_from_start, not_IsBetter}
-use Rattle.ris_algo.proofs.Small.{vertex_below}
+use Rattle.ris_algo.proofs.Meaning.{start_from_first, first_from_start, not_IsBetter, worth-push, worth-none}
+use Rattle.ris_algo.proofs.Small.{vertex_below, greatest_small}
 use Rattle.ris_algo.proofs.Vertices.{vertices_within}
-use Rattle.ris_algo.proofs.Walks.{Leads-to_vertex}
+use Rattle.ris_algo.proofs.Walks.{IsCut, Leads-push, Leads-cut, Leads-to_vertex, Joins-vertices}
 use Rattle.std.proofs.Common.{eqb}
 use Rattle.std.proofs.lemmas.Bool.{eqb-true}
 use Rattle.std.proofs.lemmas.Cmp.{nat_eq_equiv}
@@ -29,8 +31,7 @@ use Rattle.std.proofs.lemmas.Map.Views.{Contains-from_any, list_any-from_Contain
 use Rattle.ris_four.specs.declared.neighbours.Neighbour.{Neighbour}
 use Rattle.ris_four.specs.Neighbours.{neighbours_at, AreNeighbours, IsListed, IsWithin}
 use Rattle.ris_four.specs.Rounds.{value_at, value_from, AreFirst, IsBelow, next_value, next_values, values_after}
-use Rattle.ris_four.proofs.NeighbourLemmas.{IsArc, neighbours_to-sound, neighbours_to-complete}
-use Rattle.ris_four.proofs.WalkLemmas.{IsCut, Leads-push, Leads-cut, arc_ends, worth-push, worth-none}
+use Rattle.ris_four.proofs.NeighbourLemmas.{neighbours_to-sound, neighbours_to-complete}
 use Rattle.ris_four.proofs.RoundLemmas.{IsBest, best_value-IsBest, value_at-next_values, value_at-past, length-next_values}
 use Rattle.ris_four.proofs.TableLemmas.{Contains-number_bound}
 
@@ -45,14 +46,14 @@ pub record IsRound (g : PlainGraph) (spec : Spec) (better : ℕ → ℕ → Bool
   pub all : length values ≡ number_bound g.vertices
   pub sound : (x : ℕ) → IsSound g spec x (value_at values x)
   pub covers : (x : ℕ) (w : Walk) → IsWalk g spec x w → length w.triples ≤ k → (r : ℕ) × (value_at values x ≡ Num r) × (better (worth g spec.kind w) r ≡ false)
-  pub small : (x c : ℕ) → value_at values x ≡ Num c → c < 137438953472 + k * 4294967296
+  pub small : (x c : ℕ) → value_at values x ≡ Num c → c < 137438953472 + k * 68719476736
 
 no_items : {X : Type 0} (xs : List X) → length xs ≤ 0 → xs ≡ []
 no_items [] le = refl
 no_items (x ∷ xs) le = absurd (omega arith)
 
-module _ (g : PlainGraph) (spec : Spec) (start : ℕ → Option ℕ) (step : ℕ → ℕ → ℕ) (better : ℕ → ℕ → Bool) (both : Bool)
-    (proper : IsProper g) (laws : IsMonotone start step better) (meaning : IsAnalysis spec start step better both) where
+module _ (g : PlainGraph) (spec : Spec) (suits : Format → Type 0) (start : ℕ → Option ℕ) (step : ℕ → ℕ → ℕ) (better : ℕ → ℕ → Bool) (both : Bool)
+    (proper : IsProper g) (laws : IsMonotone start step better) (meaning : IsAnalysis spec suits start step better both) (fits : suits g.format) where
   -- a number is a vertex or it isn't
   vertex_cases : (x : ℕ) → HasVertex g x ⊎ ¬ (HasVertex g x)
   vertex_cases x = go (list_any (eqb x) g.vertices) refl
@@ -72,7 +73,7 @@ module _ (g : PlainGraph) (spec : Spec) (start : ℕ → Option ℕ) (step : ℕ
     (
       record { first = x; triples = [] },
       record { begins = has; first = first_from_start meaning x c e; leads = refl },
-      worth-none g spec start step better both meaning x c e,
+      worth-none meaning g fits x c e,
     ),
   )
 
@@ -91,7 +92,7 @@ module _ (g : PlainGraph) (spec : Spec) (start : ℕ → Option ℕ) (step : ℕ
         let c = begins.0 in
         let worth-is : worth g spec.kind w ≡ c =
         ap (λ ts. worth g spec.kind (record { first = w.first; triples = ts })) none
-        ∙ worth-none g spec start step better both meaning w.first c begins.1 in (
+        ∙ worth-none meaning g fits w.first c begins.1 in (
           c,
           ap (value_at values) (sym here) ∙ first.placed w.first walk.begins ∙ ap value_from begins.1,
           subst (λ n. better n c ≡ false) (sym worth-is) (laws.irreflexive c),
@@ -108,7 +109,7 @@ module _ (g : PlainGraph) (spec : Spec) (start : ℕ → Option ℕ) (step : ℕ
   module _ (lists : List (Vec Neighbour Global)) (are : AreNeighbours both g.triples (number_bound g.vertices) lists) where
     -- a neighbour that is listed stands for a triple
     listed : (x : ℕ) (n : Neighbour) → x < number_bound g.vertices → Contains (neighbours_at lists x) n
-        → (t : Triple) × HasTriple g t × (t.weight ≡ n.weight) × IsArc both t n.other x
+        → (t : Triple) × HasTriple g t × (t.weight ≡ n.weight) × Joins both t n.other x
     listed x n lt h = neighbours_to-sound both x g.triples n (subst (λ ns. Contains ns n) (are.each x lt) h)
 
     best_at : (values : List Value) (x : ℕ) → IsBest start step better laws values (value_at values x) (neighbours_at lists x) (next_value step better lists values x)
@@ -123,8 +124,8 @@ module _ (g : PlainGraph) (spec : Spec) (start : ℕ → Option ℕ) (step : ℕ
         let before = subst (IsSound g spec n.other) at (round.sound n.other) in
         let w = before.1.0 in
         let walk = before.1.1 in
-        let arc : IsArc (both_ways spec.kind) t n.other x = subst (λ b. IsArc b t n.other x) meaning.ways found.3 in (
-          (arc_ends g both t n.other x proper found.1 found.3).1,
+        let arc : Joins (both_ways spec.kind) t n.other x = subst (λ b. Joins b t n.other x) meaning.ways found.3 in (
+          (Joins-vertices proper both t n.other x found.1 found.3).1,
           (
             record { first = w.first; triples = w.triples ++ t ∷ [] },
             record {
@@ -132,7 +133,7 @@ module _ (g : PlainGraph) (spec : Spec) (start : ℕ → Option ℕ) (step : ℕ
               first = walk.first;
               leads = Leads-push g (both_ways spec.kind) w.first n.other x w.triples t walk.leads found.1 arc;
             },
-            worth-push g spec start step better both meaning w.first w.triples t walk.first
+            worth-push meaning g fits w.first w.triples t walk.first
                 ∙ ap (λ v. step v t.weight) before.1.2
                 ∙ ap (step c) found.2,
           ),
@@ -169,14 +170,14 @@ module _ (g : PlainGraph) (spec : Spec) (start : ℕ → Option ℕ) (step : ℕ
         let t = cut.last in
         let longer : length w.triples ≡ length cut.before + 1 = ap length cut.is ∙ length_push cut.before t in
         let old = round.covers cut.from part (record { begins = walk.begins; first = walk.first; leads = cut.leads }) (omega arith) in
-        let arc : IsArc both t cut.from x = subst (λ b. IsArc b t cut.from x) (sym meaning.ways) cut.arc in
+        let arc : Joins both t cut.from x = subst (λ b. Joins b t cut.from x) (sym meaning.ways) cut.joins in
         let n : Neighbour = record { other = cut.from; weight = t.weight } in
         let in' : Contains (neighbours_at lists x) n =
         subst (λ ns. Contains ns n) (sym (are.each x (omega (arith, round.all)))) (neighbours_to-complete both x cut.from g.triples t cut.has arc) in
         let offered = (best_at values x).offers n old.0 in' old.1 in
         let worth-is : worth g spec.kind w ≡ step (worth g spec.kind part) t.weight =
         ap (λ ts. worth g spec.kind (record { first = w.first; triples = ts })) cut.is
-        ∙ worth-push g spec start step better both meaning w.first cut.before t walk.first in
+        ∙ worth-push meaning g fits w.first cut.before t walk.first in
         let stepped : better (worth g spec.kind w) (step old.0 t.weight) ≡ false =
         subst (λ v. better v (step old.0 t.weight) ≡ false) (sym worth-is) (laws.monotone (worth g spec.kind part) old.0 t.weight old.2) in (
           offered.0,
@@ -198,7 +199,7 @@ module _ (g : PlainGraph) (spec : Spec) (start : ℕ → Option ℕ) (step : ℕ
         ]
 
     next_small : (k : ℕ) (values : List Value) (x c : ℕ) → IsRound g spec better k values → value_at (next_values step better lists values) x ≡ Num c
-        → c < 137438953472 + (k + 1) * 4294967296
+        → c < 137438953472 + (k + 1) * 68719476736
     next_small k values x c round e =
         elim (cases_lt x (length values)) [
           | inl lt ↦
@@ -213,6 +214,7 @@ module _ (g : PlainGraph) (spec : Spec) (start : ℕ → Option ℕ) (step : ℕ
                     let equal = found.2 in
                     let low = round.small n.other s.1 s.3 in
                     let grown = laws.step_small s.1 n.weight in
+                    let light = greatest_small g.format in
                     let same : step s.1 n.weight ≡ c = (let both' = sym s.4 ∙ is in cc) in
                     omega arith
               ]
@@ -239,7 +241,7 @@ module _ (g : PlainGraph) (spec : Spec) (start : ℕ → Option ℕ) (step : ℕ
   value_of_round k values x Unreached round le at sound = (
     sound.0,
     λ w walk.
-        let short = short_walk proper laws meaning x w walk in
+        let short = short_walk proper laws meaning fits x w walk in
         let covered = round.covers x short.0 short.1 (let s = short.2 in omega arith) in
         let reached = covered.1 in
         absurd (cc),
@@ -249,7 +251,7 @@ module _ (g : PlainGraph) (spec : Spec) (start : ℕ → Option ℕ) (step : ℕ
     record {
       some = sound.1;
       best = λ w walk.
-          let short = short_walk proper laws meaning x w walk in
+          let short = short_walk proper laws meaning fits x w walk in
           let covered = round.covers x short.0 short.1 (let s = short.2 in omega arith) in
           let same : covered.0 ≡ c = (let e = sym covered.1 ∙ at in cc) in
           let through = not_better_transitive laws (worth g spec.kind w) (worth g spec.kind short.0) covered.0 short.3 covered.2 in
@@ -283,9 +285,10 @@ AreListed g both lists proper are x lt k d low =
     let ns = neighbours_at lists x in
     let n = get_or ns k d in
     let found = neighbours_to-sound both x g.triples n (subst (λ l. Contains l n) (are.each x lt) (Contains-get_or ns k d low)) in
-    let ends = arc_ends g both found.0 n.other x proper found.1 found.3 in
+    let ends = Joins-vertices proper both found.0 n.other x found.1 found.3 in
     let weight = (All-contains (IsProperTriple g) g.triples found.0 proper.triples found.1).weight in
     let equal = found.2 in
+    let light = greatest_small g.format in
     record { other = Contains-number_bound g.vertices n.other ends.0; weight = omega arith }
 
 -- the ends of a proper graph's triples are within the table
@@ -317,23 +320,23 @@ set_up g start both table lists vertices triples ways count made vs ts bs cs ls 
       listed = subst (AreNeighbours both g.triples (number_bound g.vertices)) (sym ls) by_count;
     }
 
-module _ (g : PlainGraph) (spec : Spec) (start : ℕ → Option ℕ) (step : ℕ → ℕ → ℕ) (better : ℕ → ℕ → Bool) (both : Bool)
+module _ (g : PlainGraph) (spec : Spec) (suits : Format → Type 0) (start : ℕ → Option ℕ) (step : ℕ → ℕ → ℕ) (better : ℕ → ℕ → Bool) (both : Bool)
     (first : List Value) (lists : List (Vec Neighbour Global))
-    (proper : IsProper g) (laws : IsMonotone start step better) (meaning : IsAnalysis spec start step better both)
+    (proper : IsProper g) (laws : IsMonotone start step better) (meaning : IsAnalysis spec suits start step better both) (fits : suits g.format)
     (set : IsSetUp g start both first lists) where
   rounds_from : (k : ℕ) → IsRound g spec better k (values_after step better lists k first)
-  rounds_from k = IsRound-after g spec start step better both proper laws meaning lists set.listed k first
-      (IsRound-first g spec start step better both proper laws meaning first set.all set.first)
+  rounds_from k = IsRound-after g spec suits start step better both proper laws meaning fits lists set.listed k first
+      (IsRound-first g spec suits start step better both proper laws meaning fits first set.all set.first)
 
   -- the numbers of each round are within what a step may take
   pub rounds_small : (k : ℕ) → k < length g.vertices → All (IsBelow (2 ^ 59)) (values_after step better lists k first)
   rounds_small k lt =
       let most = vertices_within proper in
-      All-IsBelow-round g spec start step better both proper laws meaning k (values_after step better lists k first) (rounds_from k) (omega arith)
+      All-IsBelow-round g spec suits start step better both proper laws meaning fits k (values_after step better lists k first) (rounds_from k) (omega arith)
 
   -- and with enough rounds they hold the values of the definition
   pub rounds_are : (k : ℕ) → length g.vertices ≤ k + 1 → AreValues g spec (values_after step better lists k first)
-  rounds_are k le = AreValues-round g spec start step better both proper laws meaning k (values_after step better lists k first) (rounds_from k) le
+  rounds_are k le = AreValues-round g spec suits start step better both proper laws meaning fits k (values_after step better lists k first) (rounds_from k) le
 
 -- components have no root
 walk_at_root : (g : PlainGraph) (a b x : ℕ) (w : Walk) → IsWalk g (record { kind = Wcc; root = a }) x w → IsWalk g (record { kind = Wcc; root = b }) x w

@@ -1,3 +1,3 @@
 pub mod Neighbours
 pub mod Rounds
-pub mod TheFour
+pub mod Working

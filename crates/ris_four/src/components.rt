@@ -1,7 +1,10 @@
-ghost use Rattle.std.specs.Prelude.{◌≡◌, true, false};
+ghost use Rattle.std.specs.Prelude.{◌≡◌, true, false, ⊤};
+ghost use Rattle.ris_algo.proofs.Four.{laws_in, table_in, meaning_in};
+ghost use Rattle.ris_algo.specs.Laws.{start_in};
 ghost use Rattle.ris_base.specs.Analysis.{step, better};
 ghost use Rattle.ris_base.specs.declared.analyses.Kind.TheVariants.{Wcc as kind};
-ghost use Rattle.ris_four.specs.TheFour.{start_of, wcc_laws, wcc_meaning};
+ghost use Rattle.ris_base.specs.declared.graphs.Format.{Format};
+ghost use Rattle.ris_base.specs.declared.graphs.Format.TheVariants.{One};
 
 use ris_algo::Monotone;
 
@@ -12,7 +15,8 @@ pub struct Wcc;
 impl Wcc {
     /// The analysis. It has no root; that of its spec is 0.
     pub fn new() -> Wcc
-        ensures { ⟦<Wcc as Monotone>⟧.spec result ≡ record { kind = kind; root = 0 } }
+        ensures spec { ⟦<Wcc as Monotone>⟧.spec result ≡ record { kind = kind; root = 0 } }
+        ensures suits { (format : Format) → ⟦<Wcc as Monotone>⟧.suits result format }
     {
         Wcc
     }
@@ -21,7 +25,9 @@ impl Wcc {
 impl Monotone for Wcc {
     ghost spec = { λ s. record { kind = kind; root = 0 } };
 
-    ghost start_of = { λ s. start_of kind 0 };
+    ghost suits = { λ s format. ⊤ };
+
+    ghost start_of = { λ s. start_in One (record { kind = kind; root = 0 }) };
 
     ghost step_of = { λ s. step kind };
 
@@ -43,7 +49,9 @@ impl Monotone for Wcc {
         a < b
     }
 
-    ghost laws = { λ s. wcc_laws };
+    ghost laws = { λ s. laws_in One (record { kind = kind; root = 0 }) };
 
-    ghost meaning = { λ s. wcc_meaning };
+    ghost of_table = { λ s. table_in One (record { kind = kind; root = 0 }) };
+
+    ghost meaning = { λ s. meaning_in One (record { kind = kind; root = 0 }) };
 }

@@ -1,7 +1,10 @@
-ghost use Rattle.std.specs.Prelude.{◌≡◌, true, false};
+ghost use Rattle.std.specs.Prelude.{◌≡◌, true, false, ⊤};
+ghost use Rattle.ris_algo.proofs.Four.{laws_in, table_in, meaning_in};
+ghost use Rattle.ris_algo.specs.Laws.{start_in};
 ghost use Rattle.ris_base.specs.Analysis.{step, better};
 ghost use Rattle.ris_base.specs.declared.analyses.Kind.TheVariants.{Bfs as kind};
-ghost use Rattle.ris_four.specs.TheFour.{start_of, bfs_laws, bfs_meaning};
+ghost use Rattle.ris_base.specs.declared.graphs.Format.{Format};
+ghost use Rattle.ris_base.specs.declared.graphs.Format.TheVariants.{One};
 
 use ris_algo::Monotone;
 
@@ -14,7 +17,8 @@ pub struct Bfs {
 impl Bfs {
     /// The analysis from this root. A root that isn't in the graph reaches nothing.
     pub fn new(root: u32) -> Bfs
-        ensures { ⟦<Bfs as Monotone>⟧.spec result ≡ record { kind = kind; root = root } }
+        ensures spec { ⟦<Bfs as Monotone>⟧.spec result ≡ record { kind = kind; root = root } }
+        ensures suits { (format : Format) → ⟦<Bfs as Monotone>⟧.suits result format }
     {
         Bfs { root }
     }
@@ -23,7 +27,9 @@ impl Bfs {
 impl Monotone for Bfs {
     ghost spec = { λ s. record { kind = kind; root = s.root } };
 
-    ghost start_of = { λ s. start_of kind s.root };
+    ghost suits = { λ s format. ⊤ };
+
+    ghost start_of = { λ s. start_in One (record { kind = kind; root = s.root }) };
 
     ghost step_of = { λ s. step kind };
 
@@ -45,7 +51,9 @@ impl Monotone for Bfs {
         a < b
     }
 
-    ghost laws = { λ s. bfs_laws s.root };
+    ghost laws = { λ s. laws_in One (record { kind = kind; root = s.root }) };
 
-    ghost meaning = { λ s. bfs_meaning s.root };
+    ghost of_table = { λ s. table_in One (record { kind = kind; root = s.root }) };
+
+    ghost meaning = { λ s. meaning_in One (record { kind = kind; root = s.root }) };
 }

@@ -3,6 +3,7 @@
 
 mod components;
 mod depths;
+mod effects;
 mod neighbours;
 mod plain;
 mod rounds;
@@ -14,6 +15,7 @@ mod widest;
 
 pub use components::Wcc;
 pub use depths::Bfs;
+pub use effects::{plain_copy, plain_entered};
 pub use plain::plain_values;
 pub use shortest::Sssp;
 pub use widest::Sswp;

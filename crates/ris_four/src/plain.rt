@@ -26,7 +26,7 @@ pub fn plain_values<R: Threads + Sync>(
     match spec.kind {
         Kind::Bfs => values_by(rt, alloc, graph, &Bfs::new(spec.root)),
         Kind::Sssp => values_by(rt, alloc, graph, &Sssp::new(spec.root)),
-        Kind::Sswp => values_by(rt, alloc, graph, &Sswp::new(spec.root)),
+        Kind::Sswp => values_by(rt, alloc, graph, &Sswp::new(spec.root, graph.format)),
         Kind::Wcc => values_by(rt, alloc, graph, &Wcc::new()),
     }
 }
@@ -39,7 +39,8 @@ fn values_by<R: Threads + Sync, A: Monotone + Sync>(
     graph: &PlainGraph,
     algo: &A,
 ) -> Result<Values, NoMemory>
-    requires { IsProper graph.now }
+    requires proper { IsProper graph.now }
+    requires format { A.suits algo.now graph.now.format }
     ensures { IfOk result (λ values. AreValues graph.now (A.spec algo.now) values) }
 {
     let vertices = items_of(alloc, &graph.vertices)?;

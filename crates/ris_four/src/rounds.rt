@@ -11,6 +11,9 @@ use ris_base::{NoMemory, Value};
 use std::alloc::Global;
 use std::thread::Threads;
 
+/// A thread takes at least so many vertices of a round: it costs more to start one for fewer.
+const LEAST_SHARE: usize = 65_536;
+
 /// A vertex's value, or what a step from a neighbour's value over a weight makes, where that is better.
 fn improved<A: Monotone>(algo: &A, present: Value, from: Value, weight: u64) -> Value
     requires from { IsBelow (2 ^ 59) from }
@@ -56,6 +59,7 @@ fn next_values<R: Threads + Sync, A: Monotone + Sync>(
 {
     let next = (0..values.len())
         .into_par_iter()
+        .with_min_len(LEAST_SHARE)
         .map(
             |x: usize| -> Value
                 requires place { x < length values.now }

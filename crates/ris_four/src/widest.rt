@@ -1,31 +1,37 @@
-ghost use Rattle.std.specs.Prelude.{◌≡◌, true, false};
+ghost use Rattle.std.specs.Prelude.{◌≡◌, ◌↔◌, true, false};
+ghost use Rattle.ris_algo.proofs.Four.{laws_in, table_in, meaning_in};
+ghost use Rattle.ris_algo.specs.Laws.{start_in};
 ghost use Rattle.ris_base.specs.Analysis.{step, better};
 ghost use Rattle.ris_base.specs.declared.analyses.Kind.TheVariants.{Sswp as kind};
-ghost use Rattle.ris_four.specs.TheFour.{start_of, sswp_laws, sswp_meaning};
+ghost use Rattle.ris_base.specs.declared.graphs.Format.{Format};
 
 use ris_algo::Monotone;
-use ris_base::GREATEST_WEIGHT;
+use ris_base::Format;
 
-/// Widest path: the greatest of the least weights of walks from the root. The walk with no triple has 4,294,967,296,
-/// one more than the greatest weight.
+/// Widest path: the greatest of the least weights of walks from the root. The walk with no triple has one more than
+/// the greatest weight: 4,294,967,296 in format one, 68,719,476,736 in format two.
 #[derive(Clone, Copy, Debug)]
 pub struct Sswp {
     root: u32,
+    format: Format,
 }
 
 impl Sswp {
-    /// The analysis from this root. A root that isn't in the graph reaches nothing.
-    pub fn new(root: u32) -> Sswp
-        ensures { ⟦<Sswp as Monotone>⟧.spec result ≡ record { kind = kind; root = root } }
+    /// The analysis from this root, of graphs of this format. A root that isn't in the graph reaches nothing.
+    pub fn new(root: u32, format: Format) -> Sswp
+        ensures spec { ⟦<Sswp as Monotone>⟧.spec result ≡ record { kind = kind; root = root } }
+        ensures suits { (other : Format) → ⟦<Sswp as Monotone>⟧.suits result other ↔ (other ≡ format) }
     {
-        Sswp { root }
+        Sswp { root, format }
     }
 }
 
 impl Monotone for Sswp {
     ghost spec = { λ s. record { kind = kind; root = s.root } };
 
-    ghost start_of = { λ s. start_of kind s.root };
+    ghost suits = { λ s format. format ≡ s.format };
+
+    ghost start_of = { λ s. start_in s.format (record { kind = kind; root = s.root }) };
 
     ghost step_of = { λ s. step kind };
 
@@ -37,7 +43,7 @@ impl Monotone for Sswp {
 
     fn start(&self, x: u32) -> Option<u64> {
         if x == self.root {
-            Some(GREATEST_WEIGHT + 1)
+            Some(self.format.max_weight() + 1)
         } else {
             None
         }
@@ -51,7 +57,9 @@ impl Monotone for Sswp {
         b < a
     }
 
-    ghost laws = { λ s. sswp_laws s.root };
+    ghost laws = { λ s. laws_in s.format (record { kind = kind; root = s.root }) };
 
-    ghost meaning = { λ s. sswp_meaning s.root };
+    ghost of_table = { λ s. table_in s.format (record { kind = kind; root = s.root }) };
+
+    ghost meaning = { λ s. meaning_in s.format (record { kind = kind; root = s.root }) };
 }

@@ -77,6 +77,47 @@ impl Read for Interrupted {
     }
 }
 
+// Fails once, by another error than an interruption, and then works: gives one byte and ends, or takes a byte at each call.
+#[derive(Drop)]
+struct Broken {
+    failed: bool,
+    done: bool,
+}
+
+impl Broken {
+    // The error of the first call.
+    fn fail(&mut self) -> io::Result<()> {
+        if self.failed {
+            return Ok(());
+        }
+        self.failed = true;
+        Err(Error::from(ErrorKind::Other))
+    }
+}
+
+impl Read for Broken {
+    fn read(&mut self, buf: &mut [u8]) -> io::Result<usize> {
+        self.fail()?;
+        if self.done || buf.is_empty() {
+            return Ok(0);
+        }
+        self.done = true;
+        buf[0] = b'x';
+        Ok(1)
+    }
+}
+
+impl Write for Broken {
+    fn write(&mut self, buf: &[u8]) -> io::Result<usize> {
+        self.fail()?;
+        Ok(if buf.is_empty() { 0 } else { 1 })
+    }
+
+    fn flush(&mut self) -> io::Result<()> {
+        Ok(())
+    }
+}
+
 // Is interrupted so often, and then takes one byte at each call, up to its room.
 #[derive(Drop)]
 struct Narrow {
@@ -222,6 +263,21 @@ fn interruptions_are_passed_over_a_thousand_times(rt: HostRuntime) -> Result<(),
     assert_eq!(rt; sink.write(b""), Ok(0));
     assert_eq!(rt; put_all(&mut sink, b"c"), Err(WriteFault));
     Ok(())
+}
+
+#[test]
+fn an_error_is_a_fault_at_once(rt: HostRuntime) {
+    let broken = || Broken {
+        failed: false,
+        done: false,
+    };
+    let mut source = StdSource::new(broken());
+    assert_eq!(rt; source.read(&mut [0; 4]), Err(Failed));
+    assert_eq!(rt; source.read(&mut [0; 4]), Ok(1));
+    assert_eq!(rt; source.read(&mut [0; 4]), Ok(0));
+    let mut sink = StdSink::new(broken());
+    assert_eq!(rt; sink.write(b"ab"), Err(Failed));
+    assert_eq!(rt; sink.write(b"ab"), Ok(1));
 }
 
 #[test]

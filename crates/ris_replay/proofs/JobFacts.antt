@@ -1,21 +1,12 @@
--- What the definition of a job says, by how many words there are.
-use Rattle.std.proofs.Common.{◌≡◌, ◌≢◌, ℕ, ◌&&◌, List, [], ◌∷◌, Some, None, length, refl, if◌then◌else◌, codes, slice_get, arith}
-use Rattle.std.specs.Option.{option_map}
-use Rattle.std.specs.Str.{bytes_eq}
-use Rattle.ris_base.specs.Words.{job_of, job_with, analysis_of}
-
-pub job_of-other : (words : List (List ℕ)) → length words ≢ 3 → job_of words ≡ None
-unfolding job_of
-job_of-other [] h = refl
-job_of-other (a ∷ []) h = refl
-job_of-other (a ∷ b ∷ []) h = refl
-job_of-other (a ∷ b ∷ c ∷ []) h = absurd (h refl)
-job_of-other (a ∷ b ∷ c ∷ d ∷ rest) h = refl
-
-pub job_of-three : (a b c : List ℕ) → job_of (a ∷ b ∷ c ∷ [])
-    ≡ (if bytes_eq a (codes "replay") && bytes_eq b (codes "--analyses") then option_map job_with (analysis_of c) else None)
-unfolding job_of
-job_of-three a b c = refl
+-- The job that words say.
+use Rattle.std.proofs.Common.{◌≡◌, ℕ, false, List, [], ◌∷◌, Some, length, slice_get, sym, ◌∙◌, ap, subst, codes, arith}
+use Rattle.ris_base.specs.CommandLine.{IsAnalysisList}
+use Rattle.ris_base.specs.Script.{Bytes}
+use Rattle.ris_base.specs.declared.analyses.Spec.{Spec}
+use Rattle.ris_base.specs.declared.jobs.Job.{Job}
+use Rattle.ris_base.specs.declared.jobs.Job.TheVariants.{Replay}
+use Rattle.ris_words.proofs.ItemLemmas.{list_read}
+use Rattle.ris_replay.specs.Program.{SaysAnalyses, Takes}
 
 -- three words by their places
 pub three-words : (words : List (List ℕ)) (a b c : List ℕ) → length words ≡ 3
@@ -25,3 +16,26 @@ three-words (x ∷ []) a b c n h1 h2 h3 = cc
 three-words (x ∷ y ∷ []) a b c n h1 h2 h3 = cc
 three-words (x ∷ y ∷ z ∷ []) a b c n h1 h2 h3 = cc
 three-words (x ∷ y ∷ z ∷ u ∷ rest) a b c n h1 h2 h3 = absurd (omega arith)
+
+-- words with this list say what the list says
+says-list : (words : List Bytes) (list : Bytes) (specs : List Spec) → words ≡ codes "replay" ∷ codes "--analyses" ∷ list ∷ []
+    → SaysAnalyses words specs → IsAnalysisList list specs
+says-list words list specs spelled says =
+    let same : says.list ≡ list = cc in
+    subst (λ (l : Bytes). IsAnalysisList l specs) same says.named
+
+pub says-none : (words : List Bytes) (list : Bytes) → words ≡ codes "replay" ∷ codes "--analyses" ∷ list ∷ []
+    → ((specs : List Spec) → ¬ (IsAnalysisList list specs)) → (specs : List Spec) → ¬ (SaysAnalyses words specs)
+says-none words list spelled none specs says = none specs (says-list words list specs spelled says)
+
+pub says-some : (words : List Bytes) (list : Bytes) → words ≡ codes "replay" ∷ codes "--analyses" ∷ list ∷ []
+    → ((specs : List Spec) → ¬ (SaysAnalyses words specs)) → (specs : List Spec) → ¬ (IsAnalysisList list specs)
+says-some words list spelled none specs named = none specs (record { list = list; spelled = spelled; named = named })
+
+-- words say one job
+pub one-job : (words : List Bytes) (one other : Job) → Takes words one → Takes words other → one ≡ other
+one-job words one other a b =
+    let here = list_read a.2.list a.0 a.2.named in
+    let there = list_read a.2.list b.0 (says-list words a.2.list b.0 a.2.spelled b.2) in
+    let specs : a.0 ≡ b.0 = cc in
+    a.1 ∙ ap (λ (specs : List Spec). Replay false 1 specs) specs ∙ sym b.1

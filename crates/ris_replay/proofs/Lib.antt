@@ -1,12 +1,10 @@
-pub mod EdgeFacts
-pub mod EndingFacts
-pub mod JobFacts
-pub mod LegalFacts
-pub mod LineFacts
-pub mod PlayFacts
-pub mod ReadFacts
-pub mod ReportFacts
-pub mod RunFacts
-pub mod SpellingFacts
-pub mod TextFacts
-pub mod VertexFacts
+mod AnswerFacts
+mod BuiltFacts
+mod EndingFacts
+mod JobFacts
+mod PlaceFacts
+mod PlayFacts
+mod ReportFacts
+mod RunFacts
+mod StandFacts
+mod ValueFacts

@@ -1,168 +1,167 @@
--- A session at work: the commands that were handled and those that are left.
-use Rattle.std.proofs.Common.{◌≡◌, ℕ, suc, ◌+◌, ◌<◌, ◌^◌, List, [], ◌∷◌, ◌++◌, Some, None, length, drop, refl, sym, ◌∙◌, ap, subst, arith, length-append, append_assoc, append-nil}
-use Rattle.std.specs.List.{slice_get, All}
-use Rattle.ris_base.specs.Lines.{front}
-use Rattle.ris_base.specs.declared.graphs.Triple.{Triple}
-use Rattle.ris_base.specs.Transcript.{AreSmall, reply_numbers, IsTranscriptOf}
-use Rattle.ris_base.specs.Script.{numbers_below}
-use Rattle.ris_base.specs.declared.graphs.PlainGraph.{PlainGraph}
+-- The commands of a session, one after another.
+use Rattle.std.proofs.Common.{◌≡◌, ℕ, zero, suc, ◌+◌, ◌<◌, List, [], ◌∷◌, Some, None, IsTrue, length, drop, refl, sym, ◌∙◌, ap, subst, arith}
+use Rattle.std.specs.List.{slice_get, All, slice_index_or}
+use Rattle.std.proofs.lemmas.Option.{slice_get_within, get_or_from_slice_get}
+use Rattle.ris_base.specs.Answers.{Setup}
+use Rattle.ris_base.specs.Legal.{Asked, IsLegal}
+use Rattle.ris_base.specs.Lists.{EachPair}
+use Rattle.ris_base.specs.Replies.{can_have}
+use Rattle.ris_base.specs.Script.{opening_of}
+use Rattle.ris_base.specs.Shape.{IsReadable}
+use Rattle.ris_base.specs.declared.scripts.Script.{Script}
+use Rattle.ris_base.specs.Machine.{last_placed}
+use Rattle.ris_base.specs.Transcript.{asked_in, numbered_from, replies_in, setup_of}
 use Rattle.ris_base.specs.declared.analyses.Spec.{Spec}
 use Rattle.ris_base.specs.declared.commands.Command.{Command}
-use Rattle.ris_base.specs.declared.commands.Command.TheVariants as command
-use Rattle.ris_base.specs.declared.lines.Line.{Line}
-use Rattle.ris_base.specs.declared.replies.LogLine.{LogLine}
-use Rattle.ris_base.specs.declared.scripts.Script.{Script}
-use Rattle.ris_script.specs.Shape.{IsBuilt, HasOneSession}
+use Rattle.ris_legal.proofs.Telling.{opened-kept}
+use Rattle.ris_replay.specs.Playing.{AreAnswered}
+use Rattle.ris_replay.proofs.StandFacts.{command-at, stands-legal}
 use Rattle.ris_replay.specs.declared.standings.Standing.{Standing}
-use Rattle.ris_replay.specs.Journal.{transcript_of}
-use Rattle.ris_replay.specs.Ready.{IsReady, Handles}
-use Rattle.ris_replay.specs.Steps.{next, Replies, AreReplies, opening_standing, stands_after}
-use Rattle.ris_replay.proofs.LegalFacts.{transcript-right}
-use Rattle.ris_replay.proofs.VertexFacts.{length-numbers_below}
-use Rattle.ris_replay.proofs.RunFacts.{entries_from, lines-stands_after}
+use Rattle.ris_base.specs.Graph.{IsProper}
+use Rattle.ris_base.specs.Lines.{front}
+use Rattle.ris_base.specs.Requests.{after}
+use Rattle.ris_base.specs.declared.graphs.PlainGraph.{PlainGraph}
+use Rattle.ris_base.specs.declared.replies.LogLine.{LogLine}
+use Rattle.ris_replay.specs.Standing.{Answers, IsPlayed, IsReady, Stands, setup_by}
 
--- one command more
-pub replies-push : (specs : List Spec) (old : Standing) (done : List Command) (log : List LogLine) (c : Command) (r : LogLine)
-    → AreReplies specs old done log → Replies specs (stands_after old done) c r → AreSmall (reply_numbers r) → AreReplies specs old (done ++ c ∷ []) (log ++ r ∷ [])
-unfolding AreReplies stands_after
-replies-push specs old [] [] c r h right small = (right, small, tt)
-replies-push specs old [] (t ∷ log) c r h right small = absurd h
-replies-push specs old (d ∷ done) [] c r h right small = absurd h
-replies-push specs old (d ∷ done) (t ∷ log) c r h right small = (h.0, h.1, replies-push specs (next old d) done log c r h.2 right small)
+-- the number of a command is its place
+seq-at : (q : ℕ) (commands : List Command) (k : ℕ) (x : Asked) → slice_get (numbered_from q commands) k ≡ Some x → x.seq ≡ q + k
+unfolding numbered_from
+seq-at q [] k x at = absurd (cc)
+seq-at q (c ∷ commands) zero x at = let same : record { seq = q; command = c } ≡ x = cc in sym (ap (λ (a : Asked). a.seq) same) ∙ omega arith
+seq-at q (c ∷ commands) (suc k) x at = seq-at (q + 1) commands k x at ∙ omega arith
 
-pub stands-push : (old : Standing) (done : List Command) (c : Command) → stands_after old (done ++ c ∷ []) ≡ next (stands_after old done) c
-unfolding stands_after
-stands-push old [] c = refl
-stands-push old (d ∷ done) c = stands-push (next old d) done c
+rising : (commands : List Command) (s p q : ℕ) (x y : Asked) → p < q → slice_get (asked_in (commands ∷ []) s) p ≡ Some x
+    → slice_get (asked_in (commands ∷ []) s) q ≡ Some y → x.seq < y.seq
+rising commands zero p q x y less one two = let a = seq-at 0 commands p x one in let b = seq-at 0 commands q y two in omega arith
+rising commands (suc s) p q x y less one two = let a = seq-at 0 (slice_index_or (commands ∷ []) (suc s) []) p x one in let b = seq-at 0 (slice_index_or (commands ∷ []) (suc s) []) q y two in omega arith
 
--- so many commands were handled, and these are left
-pub record IsAtWork (specs : List Spec) (graph : PlainGraph) (all left : List Command) (log : List LogLine) (now : Standing) : Type 0 where
-  pub done : List Command
-  pub split : done ++ left ≡ all
-  pub few : length all < 2 ^ 64
-  pub replies : AreReplies specs (opening_standing graph) done log
-  pub stands : now ≡ stands_after (opening_standing graph) done
-  pub count : now.seq ≡ length done
-  pub same : length now.graph.vertices ≡ length graph.vertices
-  pub ready : IsReady now
-  pub built : All (IsBuilt (length graph.vertices)) left
-
-pub work-begins : (specs : List Spec) (graph : PlainGraph) (all : List Command) → length all < 2 ^ 64 → IsReady (opening_standing graph)
-    → All (IsBuilt (length graph.vertices)) all → IsAtWork specs graph all all [] (opening_standing graph)
-unfolding AreReplies stands_after
-work-begins specs graph all few ready built = record {
-  done = [];
-  split = refl;
-  few = few;
-  replies = tt;
-  stands = refl;
-  count = refl;
-  same = refl;
-  ready = ready;
-  built = built;
+-- before the first command nothing was told
+pub stands-open : (setup : Setup) (commands : List Command) → Stands setup commands [] [] 0
+unfolding last_placed
+stands-open setup commands = record {
+  account = record { commands = asked_in (commands ∷ []); replies = λ s. []; lines = []; places = [] ∷ [] };
+  is = opened-kept setup (asked_in (commands ∷ [])) [] (rising commands) (λ k spec F here there. absurd (cc));
+  commands_are = refl;
+  replies_are = λ i s. none s i;
+  lines_are = refl;
+  last_is = refl;
+  knew = λ p known at. absurd (cc);
 }
-
--- the first command that is left
-pub first-left : (left rest : List Command) (c : Command) → slice_get left 0 ≡ Some c → rest ≡ drop 1 left → left ≡ c ∷ rest
-first-left [] rest c is e = cc
-first-left (d ∷ left) rest c is e = let same : d ≡ c = cc in rw (e, same) refl
-
-pub none-left : (left : List Command) → slice_get left 0 ≡ None → left ≡ []
-none-left [] is = refl
-none-left (d ∷ left) is = cc
-
-fits : (done left rest all joined seq : ℕ) → joined ≡ done + left → joined ≡ all → left ≡ rest + 1 → all < 2 ^ 64 → seq ≡ done → seq + 1 < 2 ^ 64
-fits done left rest all joined seq a b c d e = omega arith
-
--- where it can be handled
-pub work-fits : (specs : List Spec) (graph : PlainGraph) (all left rest : List Command) (log : List LogLine) (now : Standing) (c : Command)
-    → IsAtWork specs graph all left log now → left ≡ c ∷ rest → now.seq + 1 < 2 ^ 64
-work-fits specs graph all left rest log now c work e =
-    let size = length-append work.done left in
-    let whole = ap length work.split in
-    let one : length left ≡ length rest + 1 = rw e (omega arith) in
-    fits (length work.done) (length left) (length rest) (length all) (length (work.done ++ left)) now.seq size whole one work.few work.count
-
-pub work-built : (specs : List Spec) (graph : PlainGraph) (all left rest : List Command) (log : List LogLine) (now : Standing) (c : Command)
-    → IsAtWork specs graph all left log now → left ≡ c ∷ rest → IsBuilt (length now.graph.vertices) c
-work-built specs graph all left rest log now c work e =
-    let P : List Command → Type 0 = λ xs. All (IsBuilt (length graph.vertices)) xs in
-    let all_built : P (c ∷ rest) = subst P e work.built in
-    rw work.same (all_built 0 c (omega arith))
-
-counted : (now after : Standing) (c : Command) (done : List Command) → after ≡ next now c → now.seq ≡ length done → after.seq ≡ length (done ++ c ∷ [])
-counted now after (command.Change parts) done behind count =
-    let size = length-append done (command.Change parts ∷ []) in let seq = ap (λ (s : Standing). s.seq) behind in omega arith
-counted now after (command.Value version a x) done behind count =
-    let size = length-append done (command.Value version a x ∷ []) in let seq = ap (λ (s : Standing). s.seq) behind in omega arith
-
--- it was handled
-pub work-goes-on : (specs : List Spec) (graph : PlainGraph) (all left rest : List Command) (log longer : List LogLine) (now after : Standing) (c : Command) (r : LogLine)
-    → IsAtWork specs graph all left log now → left ≡ c ∷ rest → Handles specs now c r after → longer ≡ log ++ r ∷ [] → IsAtWork specs graph all rest longer after
-work-goes-on specs graph all left rest log longer now after c r work e handled grew =
-    let P : List Command → Type 0 = λ xs. All (IsBuilt (length graph.vertices)) xs in
-    let all_built : P (c ∷ rest) = subst P e work.built in
-    let Q : Standing → Type 0 = λ s. Replies specs s c r in
-    record {
-      done = work.done ++ c ∷ [];
-      split = append_assoc work.done (c ∷ []) rest ∙ (rw e at work.split);
-      few = work.few;
-      replies = rw grew (replies-push specs (opening_standing graph) work.done log c r work.replies (subst Q work.stands handled.right) handled.small);
-      stands = handled.behind ∙ ap (λ (s : Standing). next s c) work.stands ∙ sym (stands-push (opening_standing graph) work.done c);
-      count = counted now after c work.done handled.behind work.count;
-      same = handled.same ∙ work.same;
-      ready = handled.ready;
-      built = λ k d less. all_built (suc k) d (omega arith);
-    }
-
--- all were handled
-pub work-ends : (specs : List Spec) (graph : PlainGraph) (all left : List Command) (log : List LogLine) (now : Standing)
-    → IsAtWork specs graph all left log now → slice_get left 0 ≡ None
-    → AreReplies specs (opening_standing graph) all log × (now.lines ≡ (stands_after (opening_standing graph) all).lines)
-work-ends specs graph all left log now work none =
-    let e = none-left left none in
-    let whole : work.done ≡ all = sym (append-nil work.done) ∙ (rw e at work.split) in
-    let P : List Command → Type 0 = λ xs. AreReplies specs (opening_standing graph) xs log in
-    (subst P whole work.replies, ap (λ (s : Standing). s.lines) work.stands ∙ ap (λ (xs : List Command). (stands_after (opening_standing graph) xs).lines) whole)
-
--- the commands of the one session
-pub one-session : (script : Script) (commands : List Command) → HasOneSession script → Some commands ≡ slice_get script.commands 0
-    → (script.commands ≡ commands ∷ []) × All (IsBuilt script.vertices) commands
-one-session script commands session first =
-    let is = session.commands in
-    let same : commands ≡ session.list = some-one commands session.list script.commands is first in
-    let P : List Command → Type 0 = λ xs. All (IsBuilt script.vertices) xs in
-    (rw same is, subst P (sym same) session.built)
   where
-    some-one : (commands list : List Command) (lists : List (List Command)) → lists ≡ list ∷ [] → Some commands ≡ slice_get lists 0 → commands ≡ list
-    some-one commands list lists is first = let at : slice_get lists 0 ≡ Some list = rw is refl in cc
+    none : (s : ℕ) → ◌≡◌ {A = List LogLine} [] (slice_index_or ([] ∷ []) s [])
+    none zero = refl
+    none (suc s) = refl
 
--- a run of a script can begin
-pub ready-opening : (script : Script) (numbers : List ℕ) (base : List Triple) → HasOneSession script → numbers ≡ numbers_below script.vertices → base ≡ script.base
-    → IsReady (opening_standing (record { vertices = numbers; triples = base }))
-unfolding front
-ready-opening script numbers base session e same = record {
-  vertices = let size = ap length e ∙ length-numbers_below script.vertices in rw size e;
-  few = let size = ap length e ∙ length-numbers_below script.vertices in let few = session.vertices in omega arith;
-  triples = rw (same, session.base) (λ k d less. absurd (omega arith));
-  entries = refl;
-  lines = omega arith;
+-- a standing behind the first of these commands, where those are left
+pub record IsOnTheWay (specs : List Spec) (opening : PlainGraph) (commands : List Command) (s : Standing) (left : List Command) : Type 0 where
+  pub ready : IsReady s
+  pub opened : s.opening ≡ opening
+  pub rest : left ≡ drop (length s.log) commands
+  pub all : length s.log + length left ≡ length commands
+  pub played : IsPlayed specs commands s
+
+pub way-begins : (specs : List Spec) (opening : PlainGraph) (commands : List Command) (s : Standing) → IsProper opening → s.opening ≡ opening → s.graph ≡ opening
+    → s.lines ≡ [] → s.log ≡ [] → IsOnTheWay specs opening commands s commands
+unfolding front after
+way-begins specs opening commands s proper opened graph lines log = record {
+  ready = record {
+    proper = rw opened proper;
+    entries = rw lines refl;
+    graph = rw lines (graph ∙ sym opened);
+  };
+  opened = opened;
+  rest = rw log refl;
+  all = rw log (omega arith);
+  played = rw (lines, log) (stands-open (setup_by specs s) commands);
 }
 
--- what a run of a script gives is a transcript of it
-pub play-right : (script : Script) (specs : List Spec) (commands : List Command) (numbers : List ℕ) (log : List LogLine) (logs none : List (List LogLine)) (lines : List Line)
-    → script.commands ≡ commands ∷ [] → numbers ≡ numbers_below script.vertices → length commands < 2 ^ 64
-    → AreReplies specs (opening_standing (record { vertices = numbers; triples = script.base })) commands log
-    → lines ≡ (stands_after (opening_standing (record { vertices = numbers; triples = script.base })) commands).lines
-    → none ≡ [] → logs ≡ none ++ log ∷ []
-    → (visits : ℕ) → visits < 2 ^ 64 → IsTranscriptOf script specs (transcript_of logs lines visits)
-play-right script specs commands numbers log logs none lines e vertices few replies all empty grew visits low =
-    let P : List ℕ → Type 0 = λ xs. AreReplies specs (opening_standing (record { vertices = xs; triples = script.base })) commands log in
-    let one : logs ≡ log ∷ [] = rw (grew, empty) refl in
-    let entries : lines ≡ entries_from 0 commands = all ∙ lines-stands_after 0 [] (record { vertices = numbers; triples = script.base }) commands in
-    rw (one, entries) (transcript-right script specs commands log visits e few low (subst P vertices replies))
+drop-at : {X : Type 0} (n : ℕ) (xs : List X) → slice_get (drop n xs) 0 ≡ slice_get xs n
+drop-at zero xs = refl
+drop-at (suc n) [] = refl
+drop-at (suc n) (x ∷ xs) = drop-at n xs
 
--- its commands fit its vertices
-pub built-for : (n : ℕ) (numbers : List ℕ) (commands : List Command) → numbers ≡ numbers_below n → All (IsBuilt n) commands → All (IsBuilt (length numbers)) commands
-built-for n numbers commands e built = let size : length numbers ≡ n = ap length e ∙ length-numbers_below n in
-    let P : ℕ → Type 0 = λ m. All (IsBuilt m) commands in subst P (sym size) built
+drop-more : {X : Type 0} (n : ℕ) (xs : List X) → drop 1 (drop n xs) ≡ drop (n + 1) xs
+drop-more zero xs = refl
+drop-more (suc n) [] = let e : suc (n + 1) ≡ suc n + 1 = omega arith in ap (λ (m : ℕ). drop m []) e
+drop-more (suc n) (x ∷ xs) = drop-more n xs ∙ (let e : suc (n + 1) ≡ suc n + 1 = omega arith in ap (λ (m : ℕ). drop m (x ∷ xs)) e)
+
+shorter-one : (left : List Command) (asked : Command) → slice_get left 0 ≡ Some asked → length left ≡ length (drop 1 left) + 1
+shorter-one [] asked at = absurd (cc)
+shorter-one (c ∷ left) asked at = omega arith
+
+pub way-goes : (specs : List Spec) (opening : PlainGraph) (commands : List Command) (s t : Standing) (left : List Command) (asked : Command) → IsOnTheWay specs opening commands s left
+    → slice_get left 0 ≡ Some asked → IsReady t → t.opening ≡ s.opening → length t.log ≡ length s.log + 1 → Answers specs asked s t
+    → IsOnTheWay specs opening commands t (drop 1 left)
+way-goes specs opening commands s t left asked way first ready opened logged answers = record {
+  ready = ready;
+  opened = opened ∙ way.opened;
+  rest = ap (drop 1) way.rest ∙ drop-more (length s.log) commands ∙ ap (λ (n : ℕ). drop n commands) (sym logged);
+  all = let a = way.all in let b = shorter-one left asked first in omega arith;
+  played = answers commands way.played (sym (drop-at (length s.log) commands) ∙ ap (λ (cs : List Command). slice_get cs 0) (sym way.rest) ∙ first);
+}
+
+-- what holds of all commands holds of the first that is left
+pub way-taken : (P : Command → Type 0) (specs : List Spec) (opening : PlainGraph) (commands : List Command) (s : Standing) (left : List Command) (asked : Command)
+    → IsOnTheWay specs opening commands s left → slice_get left 0 ≡ Some asked → All P commands → P asked
+way-taken P specs opening commands s left asked way first all =
+    let at : slice_get commands (length s.log) ≡ Some asked = sym (drop-at (length s.log) commands) ∙ ap (λ (cs : List Command). slice_get cs 0) (sym way.rest) ∙ first in
+    subst P (get_or_from_slice_get commands (length s.log) asked asked at) (all (length s.log) asked (slice_get_within commands (length s.log) asked at))
+
+-- behind the last command all are answered
+pub way-ends : (specs : List Spec) (opening : PlainGraph) (commands : List Command) (s : Standing) (left : List Command) → IsOnTheWay specs opening commands s left
+    → slice_get left 0 ≡ None → length s.log ≡ length commands
+way-ends specs opening commands s [] way none = let a = way.all in omega arith
+way-ends specs opening commands s (c ∷ left) way none = absurd (cc)
+
+pub shorter : (left : List Command) (asked : Command) → slice_get left 0 ≡ Some asked → length (drop 1 left) < length left
+shorter [] asked at = absurd (cc)
+shorter (c ∷ left) asked at = omega arith
+
+-- A script of one session
+
+-- each pair of two lists of one length, by its place
+pair-each : {X Y : Type 0} (R : X → Y → Type 0) (xs : List X) (ys : List Y) → length ys ≡ length xs
+    → ((k : ℕ) (x : X) (y : Y) → slice_get xs k ≡ Some x → slice_get ys k ≡ Some y → R x y) → EachPair R xs ys
+pair-each R [] [] same each = tt
+pair-each R [] (y ∷ ys) same each = absurd (omega arith)
+pair-each R (x ∷ xs) [] same each = absurd (omega arith)
+pair-each R (x ∷ xs) (y ∷ ys) same each = (each 0 x y refl refl, pair-each R xs ys (omega arith) (λ k a b at bt. each (suc k) a b at bt))
+
+-- the lists of a script of one session
+one-list : {X : Type 0} (lists : List X) (x : X) → slice_get lists 0 ≡ Some x → length lists ≡ 1 → lists ≡ x ∷ []
+one-list [] x at one = absurd (cc)
+one-list (y ∷ []) x at one = let same : y ≡ x = cc in ap (λ z. z ∷ []) same
+one-list (y ∷ z ∷ more) x at one = absurd (omega arith)
+
+pub play-answered : (script : Script) (specs : List Spec) (commands : List Command) (s : Standing) (logs : List (List LogLine)) → IsReadable (length specs) script
+    → slice_get script.commands 0 ≡ Some commands → s.opening ≡ opening_of script → length s.log ≡ length commands → IsPlayed specs commands s → logs ≡ s.log ∷ []
+    → AreAnswered script specs logs s.lines
+play-answered script specs commands s logs readable first opening all played logged = record {
+  form = subst (λ (ls : List (List LogLine)). EachPair (EachPair CanHave) script.commands ls) (sym logged)
+      (subst (λ (cs : List (List Command)). EachPair (EachPair CanHave) cs (s.log ∷ [])) (sym lists) (pair-each CanHave commands s.log all kinds, tt));
+  legal =
+      subst (λ (ls : List (List LogLine)). IsLegal (setup_of script specs) (asked_in script.commands) (replies_in ls) s.lines) (sym logged)
+      (subst (λ (cs : List (List Command)). IsLegal (setup_of script specs) (asked_in cs) (replies_in (s.log ∷ [])) s.lines) (sym lists)
+      (subst (λ (u : Setup). IsLegal u (asked_in (commands ∷ [])) (replies_in (s.log ∷ [])) s.lines) setup legal));
+}
+  where
+    CanHave : Command → LogLine → Type 0
+    CanHave asked reply = IsTrue (can_have asked reply)
+
+    lists : script.commands ≡ commands ∷ []
+    lists = one-list script.commands commands first (let n = readable.lists in let a = readable.some in let b = readable.few in omega arith)
+
+    sessions : 1 ≡ script.sessions
+    sessions = let a = readable.some in let b = readable.few in omega arith
+
+    setup : setup_by specs s ≡ setup_of script specs
+    setup =
+        ap (λ (g : PlainGraph). record { opening = g; specs = specs; sessions = 1 }) opening
+        ∙ ap (λ (n : ℕ). record { opening = opening_of script; specs = specs; sessions = n }) sessions
+
+    legal : IsLegal (setup_by specs s) (asked_in (commands ∷ [])) (replies_in (s.log ∷ [])) s.lines
+    legal = stands-legal (setup_by specs s) commands s.log s.lines (length s.lines) played
+
+    kinds : (k : ℕ) (asked : Command) (reply : LogLine) → slice_get commands k ≡ Some asked → slice_get s.log k ≡ Some reply → CanHave asked reply
+    kinds k asked reply at there = legal.kinds.kinds 0 k (record { seq = 0 + k; command = asked }) reply (command-at 0 commands k asked at) there

@@ -1,5 +1,5 @@
 -- Texts that are written piece by piece.
-use Rattle.std.proofs.Common.{◌≡◌, ℕ, ◌+◌, ◌≤◌, List, [], ◌∷◌, ◌++◌, Some, None, Option, length, take, refl, sym, ◌∙◌, ap, arith, append_assoc, length-append, Result, Ok, Err, subst, codes, decimal}
+use Rattle.std.proofs.Common.{◌≡◌, ℕ, ◌+◌, ◌<◌, List, [], ◌∷◌, ◌++◌, Some, None, Option, length, take, refl, sym, ◌∙◌, ap, arith, append_assoc, length-append, Result, Ok, Err, subst, codes, decimal}
 use Rattle.std.specs.List.{concat}
 use Rattle.ris_base.specs.Status.{cause_word, script_line}
 use Rattle.ris_base.specs.declared.scripts.Cause.{Cause}
@@ -15,7 +15,7 @@ append_known-twice (Some h) a b = ap Some (append_assoc h a b)
 
 -- a prefix of the text of a stream was written
 abbrev pub IsCut : Option (List ℕ) → Option (List ℕ) → List ℕ → Type 0
-IsCut before after text = (k : ℕ) × (k ≤ length text) × (after ≡ append_known before (take k text))
+IsCut before after text = (k : ℕ) × (k < length text) × (after ≡ append_known before (take k text))
 
 -- a prefix behind a whole piece is a prefix of both
 pub cut-behind : (before mid after : Option (List ℕ)) (first rest : List ℕ) → mid ≡ append_known before first → IsCut mid after rest → IsCut before after (first ++ rest)

@@ -1,209 +1,158 @@
--- What the right replies of a run make of its lines: each command's entry, and each entry's command.
-use Rattle.std.proofs.Common.{◌≡◌, ℕ, zero, suc, ◌+◌, ◌-◌, ◌<◌, ◌≤◌, List, [], ◌∷◌, ◌++◌, Some, None, refl, sym, ◌∙◌, ap, arith, rules, append_assoc, inl, inr, ◌⊎◌}
-use Rattle.std.specs.Option.{IfSome}
-use Rattle.std.specs.List.{slice_get}
-use Rattle.ris_base.specs.Lines.{front, entry_at}
-use Rattle.ris_base.specs.Requests.{after, entered, refusal_of}
-use Rattle.ris_base.specs.Legal.{MayFollow, number}
-use Rattle.ris_base.specs.declared.graphs.PlainGraph.{PlainGraph}
+-- What the text of a replay is.
+use Rattle.std.proofs.Common.{◌≡◌, ◌↔◌, ℕ, ◌+◌, ◌-◌, ◌<◌, ◌≤◌, sym, subst, ap, ◌∙◌, false, IsTrue, IsErrOf, List, [], ◌++◌, length, take, Option, Some, None, Result, Ok, Err, refl, arith}
+use Rattle.std.specs.List.{AllByRecursion}
+use Rattle.std.specs.Io.KnownBytes.{append_known}
+use Rattle.ris_base.specs.Causes.{Rose}
+use Rattle.ris_base.specs.Limits.{script_limit}
+use Rattle.ris_base.specs.Script.{Bytes, Fault}
+use Rattle.ris_base.specs.Status.{Grew, HasScript, IsReadWhole, IsTextOf, IsUntouched, OnJob, Stream, reads_input, status_line}
+use Rattle.ris_base.specs.declared.statuses.Status.{Status}
+use Rattle.ris_base.specs.declared.statuses.Status.TheVariants as status
+use Rattle.ris_base.specs.Transcript.{IsSmall, all_lines, setup_of, spelling}
 use Rattle.ris_base.specs.declared.analyses.Spec.{Spec}
-use Rattle.ris_base.specs.declared.updates.Update.{Update}
-use Rattle.ris_base.specs.declared.commands.Version.{Version}
-use Rattle.ris_base.specs.declared.commands.Command.{Command}
-use Rattle.ris_base.specs.declared.commands.Command.TheVariants as command
-use Rattle.ris_base.specs.declared.lines.Entry.{Entry}
+use Rattle.ris_base.specs.declared.jobs.Job.{Job}
+use Rattle.ris_base.specs.declared.jobs.Job.TheVariants.{Replay}
+use Rattle.ris_base.specs.declared.scripts.Cause.{Cause}
+use Rattle.ris_io.specs.Streams.{WhereTold}
+use Rattle.ris_io.specs.declared.faults.ReadError.{ReadError}
+use Rattle.ris_io.specs.declared.faults.ReadError.TheVariants as reading
+use Rattle.ris_script.specs.Bytes.{script_of}
 use Rattle.ris_base.specs.declared.lines.Line.{Line}
 use Rattle.ris_base.specs.declared.replies.LogLine.{LogLine}
-use Rattle.ris_base.specs.declared.replies.LogLine.TheVariants.{Reply, Answer}
-use Rattle.ris_base.specs.declared.replies.Outcome.TheVariants.{Placed}
-use Rattle.ris_base.specs.declared.replies.ReadAnswer.TheVariants as answer
-use Rattle.ris_replay.specs.Steps.{entry_of, stands_after, AreReplies}
-use Rattle.ris_replay.proofs.LineFacts.{front-one, entry_at-here, entry_at-past, after-append, after-one}
+use Rattle.ris_base.specs.declared.scripts.Script.{Script}
+use Rattle.ris_text.specs.Journal.{transcript_of}
+use Rattle.ris_text.proofs.Laws.{legal_transcript}
+use Rattle.ris_replay.specs.Playing.{AreAnswered}
+use Rattle.ris_replay.specs.Program.{IsRun, SaysAnalyses, program}
+use Rattle.ris_replay.specs.Endings.{Ends, IsLong, fault_of, status_of}
+use Rattle.ris_replay.specs.Reports.{reported_cause}
+use Rattle.ris_replay.specs.declared.endings.Ending.TheVariants as ending
+use Rattle.ris_replay.specs.declared.endings.Ending.{Ending}
+use Rattle.ris_replay.proofs.EndingFacts.{causes, output_of, report, visits_of}
+use Rattle.ris_replay.proofs.JobFacts.{one-job}
 
--- the lines that commands become, the first of which has this number
-unfoldable pub entries_from : ℕ → List Command → List Line
-entries_from q [] = []
-entries_from q (command.Change parts ∷ commands) = entry_of q parts ∷ entries_from (q + 1) commands
-entries_from q (command.Value version a x ∷ commands) = entries_from (q + 1) commands
+-- answers that are right, spelled with numbers below 2^64, are a text of the script
+pub text-right : (script : Script) (specs : List Spec) (logs : List (List LogLine)) (lines : List Line) (text : Bytes) → AreAnswered script specs logs lines
+    → text ≡ spelling (transcript_of logs lines 0) → AllByRecursion (AllByRecursion IsSmall) (all_lines (transcript_of logs lines 0))
+    → IsTextOf program (Replay false 1 specs) script 0 text
+text-right script specs logs lines text answered spelled small = record {
+  transcript = transcript_of logs lines 0;
+  right = legal_transcript (setup_of script specs) script.commands logs lines 0 answered.form answered.legal small;
+  last = refl;
+  bounded = λ grows fits n reach. omega arith;
+  within = refl;
+  text_is = spelled;
+}
 
--- the run's lines are those that it had, and those that the commands become
-pub lines-stands_after : (q : ℕ) (lines : List Line) (g : PlainGraph) (commands : List Command)
-    → (stands_after (record { seq = q; lines = lines; graph = g }) commands).lines ≡ lines ++ entries_from q commands
-unfolding stands_after entries_from
-lines-stands_after q lines g [] = sym (search rules)
-lines-stands_after q lines g (command.Change parts ∷ commands) =
-    lines-stands_after (q + 1) (lines ++ entry_of q parts ∷ []) (entered g parts) commands ∙ append_assoc lines (entry_of q parts ∷ []) (entries_from (q + 1) commands)
-lines-stands_after q lines g (command.Value version a x ∷ commands) = lines-stands_after (q + 1) lines g commands
+-- no ticks more are none
+none-more : (n : ℕ) → n - n ≡ 0
+none-more n = omega arith
 
--- the lines after one more entry, joined to those of the commands behind it
-pub joined : (all lines : List Line) (q : ℕ) (parts : List Update) (commands : List Command) → all ≡ lines ++ entries_from q (command.Change parts ∷ commands)
-    → all ≡ (lines ++ entry_of q parts ∷ []) ++ entries_from (q + 1) commands
-unfolding entries_from
-joined all lines q parts commands e = e ∙ sym (append_assoc lines (entry_of q parts ∷ []) (entries_from (q + 1) commands))
+-- what a run says of itself, by how it ended
+pub run-right : (words : List Bytes) (input output faults : Stream) (ticks : ℕ) (e : Ending) (answered : Status) → Ends program words input output 0 e
+    → answered ≡ status_of e → Grew faults (status_line (status_of e) (fault_of e)) → (status_of e ≡ status.Ok → IsUntouched faults)
+    → IsRun words input output faults (ticks - ticks) answered
+run-right words input output faults ticks e answered h same grew still =
+    subst (λ (n : ℕ). IsRun words input output faults n answered) (sym (none-more ticks)) (record {
+      causes = causes program words input output 0 e answered one-job h same;
+      reports = report program words input output faults 0 e answered h same grew still;
+      headline = output_of program words input output 0 e answered h same;
+      still = visits_of program words input output 0 e answered h same;
+    })
 
--- the same two equations as they compute
-unfold_all : (all lines : List Line) (q : ℕ) (parts : List Update) (commands : List Command) → all ≡ lines ++ entries_from q (command.Change parts ∷ commands)
-    → all ≡ lines ++ entry_of q parts ∷ entries_from (q + 1) commands
-unfolding entries_from
-unfold_all all lines q parts commands e = e
+-- How a run ends
 
-pub value_lines : (all lines : List Line) (q : ℕ) (version : Version) (a x : ℕ) (commands : List Command)
-    → all ≡ lines ++ entries_from q (command.Value version a x ∷ commands) → all ≡ lines ++ entries_from (q + 1) commands
-unfolding entries_from
-value_lines all lines q version a x commands e = e
+-- where an input tells its bytes, what is told of them is told of those before and those after
+told : (a b : Option Bytes) (P Q : Bytes → Bytes → Type 0) → WhereTold a b P → ((xs ys : Bytes) → P xs ys → Q xs ys)
+    → (before : Bytes) → a ≡ Some before → (after : Bytes) × (b ≡ Some after) × Q before after
+told None None P Q h then' before e = absurd (cc)
+told None (Some ys) P Q h then' before e = absurd h
+told (Some xs) None P Q h then' before e = absurd h
+told (Some xs) (Some ys) P Q h then' before e =
+    let same : xs ≡ before = cc in (ys, refl, subst (λ (z : Bytes). Q z ys) same (then' xs ys h))
 
-no_lines : (all lines : List Line) (q : ℕ) → all ≡ lines ++ entries_from q [] → all ≡ lines
-unfolding entries_from
-no_lines all lines q e = e ∙ search rules
+-- words that say analyses say a job
+pub on-job : (words : List Bytes) (specs : List Spec) (P : Job → Type 0) → SaysAnalyses words specs → P (Replay false 1 specs) → OnJob program words P
+on-job words specs P says h = (Replay false 1 specs, (specs, refl, says), h)
 
--- a command that is answered by a place is the entry at this place
-pub entry-of-placed : (specs : List Spec) (q : ℕ) (lines : List Line) (g : PlainGraph) (commands : List Command) (replies : List LogLine) (all : List Line)
-    → all ≡ lines ++ entries_from q commands
-    → AreReplies specs (record { seq = q; lines = lines; graph = g }) commands replies
-    → (k v n : ℕ) → n ≡ q + k → slice_get replies k ≡ Some (Reply (Placed v))
-    → (parts : List Update) × (slice_get commands k ≡ Some (command.Change parts)) × (entry_at all v ≡ Some (record { session = 0; seq = n; parts = parts }))
-unfolding AreReplies
-entry-of-placed specs q lines g [] [] all e h k v n m is = cc
-entry-of-placed specs q lines g [] (r ∷ replies) all e h k v n m is = absurd h
-entry-of-placed specs q lines g (c ∷ commands) [] all e h k v n m is = absurd h
-entry-of-placed specs q lines g (command.Change parts ∷ commands) (Answer a ∷ replies) all e h k v n m is = absurd h.0
-entry-of-placed specs q lines g (command.Value version a x ∷ commands) (Reply outcome ∷ replies) all e h k v n m is = absurd h.0
-entry-of-placed specs q lines g (command.Change parts ∷ commands) (Reply (Placed place) ∷ replies) all e h zero v n m is =
-    let same : v ≡ place = cc in
-    let here = entry_at-here lines (record { session = 0; seq = q; parts = parts }) (entries_from (q + 1) commands) in
-    let number : n ≡ q = omega arith in
-    (parts, refl, rw (number, same, h.0.place_is, unfold_all all lines q parts commands e) here)
-entry-of-placed specs q lines g (command.Change parts ∷ commands) (Reply (Placed place) ∷ replies) all e h (suc k) v n m is =
-    entry-of-placed specs (q + 1) (lines ++ entry_of q parts ∷ []) (entered g parts) commands replies all (joined all lines q parts commands e) h.2 k v n (omega arith) is
-entry-of-placed specs q lines g (command.Value version a x ∷ commands) (Answer (answer.Value shown place value) ∷ replies) all e h zero v n m is = cc
-entry-of-placed specs q lines g (command.Value version a x ∷ commands) (Answer (answer.Value shown place value) ∷ replies) all e h (suc k) v n m is =
-    entry-of-placed specs (q + 1) lines g commands replies all (value_lines all lines q version a x commands e) h.2 k v n (omega arith) is
+-- an input that was read whole gives the script of its bytes
+pub has-script : (words : List Bytes) (specs : List Spec) (input : Stream) (bytes : Bytes) (P : Job → Result Script Fault → Type 0) → SaysAnalyses words specs
+    → WhereTold input.before input.after (λ xs ys. (bytes ≡ xs) × (ys ≡ [])) → length bytes ≤ script_limit → input.faults_after ≡ input.faults_before
+    → P (Replay false 1 specs) (script_of (length specs) bytes) → OnJob program words (λ job. HasScript program input job (P job))
+has-script words specs input bytes P says all few still h =
+    on-job words specs (λ job. HasScript program input job (P job)) says
+    (told input.before input.after (λ xs ys. (bytes ≡ xs) × (ys ≡ []))
+    (λ before after. IsReadWhole input before after × P (Replay false 1 specs) (script_of (length specs) before)) all
+    (λ xs ys is. (
+      record { no_fault = still; within = subst (λ (zs : Bytes). length zs ≤ script_limit) is.0 few; end = is.1 },
+      subst (λ (zs : Bytes). P (Replay false 1 specs) (script_of (length specs) zs)) is.0 h,
+    )))
 
--- a number above another is the next one or above that
-apart : (n v : ℕ) → n < v → (v ≡ n + 1) ⊎ (n + 1 < v)
-apart zero zero h = absurd (omega arith)
-apart zero (suc zero) h = inl refl
-apart zero (suc (suc v)) h = inr (omega arith)
-apart (suc n) zero h = absurd (omega arith)
-apart (suc n) (suc v) h = elim (apart n v (omega arith)) [ inl e ↦ inl (omega arith) | inr l ↦ inr (omega arith) ]
+pub ends-usage : (words : List Bytes) (input output : Stream) → ((specs : List Spec) → ¬ (SaysAnalyses words specs)) → input.faults_after ≡ input.faults_before
+    → IsUntouched output → Ends program words input output 0 ending.Usage
+ends-usage words input output none still quiet = (λ job takes. none takes.0 takes.2, still, quiet, refl)
 
-further : (lines : List Line) (q : ℕ) (parts : List Update) (v : ℕ) → front lines + 1 < v → front (lines ++ entry_of q parts ∷ []) < v
-further lines q parts v h = rw (front-one lines (record { session = 0; seq = q; parts = parts })) h
+pub ends-long : (words : List Bytes) (specs : List Spec) (input output : Stream) (r : Result (List ℕ) ReadError) → SaysAnalyses words specs → r ≡ Err reading.TooLong
+    → WhereTold input.before input.after (λ xs ys. IsErrOf r reading.TooLong ↔ (script_limit + length ys < length xs))
+    → input.faults_after ≡ input.faults_before → IsUntouched output → Ends program words input output 0 ending.TooLong
+ends-long words specs input output r says is told_so still quiet =
+    let long : IsErrOf r reading.TooLong = rw is refl in (
+      on-job words specs (λ job. IsTrue (reads_input job)) says refl,
+      still,
+      told input.before input.after (λ xs ys. IsErrOf r reading.TooLong ↔ (script_limit + length ys < length xs)) IsLong told_so (λ xs ys h. h.0 long),
+      quiet,
+      refl,
+    )
 
--- what an entry past the front is of the commands: command number k, which is answered by its place
-pub record IsCommandAt (q : ℕ) (commands : List Command) (replies : List LogLine) (v : ℕ) (e : Entry) (k : ℕ) : Type 0 where
-  pub seq : e.seq ≡ q + k
-  pub session : e.session ≡ 0
-  pub reply : slice_get replies k ≡ Some (Reply (Placed v))
-  pub change : slice_get commands k ≡ Some (command.Change e.parts)
+pub ends-fault : (words : List Bytes) (specs : List Spec) (input output : Stream) (r : Result (List ℕ) ReadError) → SaysAnalyses words specs → r ≡ Err reading.ReadFault
+    → WhereTold input.before input.after (λ xs ys. IsErrOf r reading.TooLong ↔ (script_limit + length ys < length xs))
+    → (IsErrOf r reading.ReadFault → Rose input.faults_before input.faults_after) → IsUntouched output → Ends program words input output 0 ending.ReadFault
+ends-fault words specs input output r says is told_so rose quiet = (
+  on-job words specs (λ job. IsTrue (reads_input job)) says refl,
+  rose (rw is refl),
+  told input.before input.after (λ xs ys. IsErrOf r reading.TooLong ↔ (script_limit + length ys < length xs)) (λ before after. ¬ (IsLong before after)) told_so
+      (λ xs ys h long. absurd (let no = rw is at h.1 long in cc)),
+  quiet,
+  refl,
+)
 
-pub placed-of-entry : (specs : List Spec) (q : ℕ) (lines : List Line) (g : PlainGraph) (commands : List Command) (replies : List LogLine) (all : List Line)
-    → all ≡ lines ++ entries_from q commands
-    → AreReplies specs (record { seq = q; lines = lines; graph = g }) commands replies
-    → (v : ℕ) (e : Entry) → front lines < v → entry_at all v ≡ Some e → (k : ℕ) × IsCommandAt q commands replies v e k
-unfolding AreReplies
-placed-of-entry specs q lines g [] [] all e h v d past is =
-    let none : entry_at all v ≡ None = rw (no_lines all lines q e) (entry_at-past lines v past) in cc
-placed-of-entry specs q lines g [] (r ∷ replies) all e h v d past is = absurd h
-placed-of-entry specs q lines g (c ∷ commands) [] all e h v d past is = absurd h
-placed-of-entry specs q lines g (command.Change parts ∷ commands) (Answer a ∷ replies) all e h v d past is = absurd h.0
-placed-of-entry specs q lines g (command.Value version a x ∷ commands) (Reply outcome ∷ replies) all e h v d past is = absurd h.0
-placed-of-entry specs q lines g (command.Change parts ∷ commands) (Reply (Placed place) ∷ replies) all e h v d past is =
-    elim (apart (front lines) v past) [
-      | inl here ↦
-          let entry : entry_at all v ≡ Some (record { session = 0; seq = q; parts = parts }) =
-          rw (here, unfold_all all lines q parts commands e) (entry_at-here lines (record { session = 0; seq = q; parts = parts }) (entries_from (q + 1) commands)) in
-          let same : d ≡ record { session = 0; seq = q; parts = parts } = cc in
-          let place_is : place ≡ v = h.0.place_is ∙ sym here in
-          (0, record { seq = rw same (omega arith); session = rw same refl; reply = rw place_is refl; change = rw same refl })
-      | inr there ↦
-          let more = placed-of-entry specs (q + 1) (lines ++ entry_of q parts ∷ []) (entered g parts) commands replies all (joined all lines q parts commands e) h.2 v d (further lines q parts v there) is in
-          (suc more.0, record { seq = let s = more.1.seq in omega arith; session = more.1.session; reply = more.1.reply; change = more.1.change })
-    ]
-placed-of-entry specs q lines g (command.Value version a x ∷ commands) (Answer (answer.Value shown place value) ∷ replies) all e h v d past is =
-    let more = placed-of-entry specs (q + 1) lines g commands replies all (value_lines all lines q version a x commands e) h.2 v d past is in
-    (suc more.0, record { seq = let s = more.1.seq in omega arith; session = more.1.session; reply = more.1.reply; change = more.1.change })
+grown : (a b : Option Bytes) (bytes held : Bytes) → b ≡ append_known a bytes → a ≡ Some held → b ≡ Some (held ++ bytes)
+grown a b bytes held h e = h ∙ ap (λ (o : Option Bytes). append_known o bytes) e
 
--- a reply that may stand behind a number may stand behind a smaller one
-follow-less : (m n : ℕ) (r : LogLine) → m ≤ n → MayFollow n r → MayFollow m r
-follow-less m n (Reply (Placed place)) h f = omega arith
-follow-less m n (Answer (answer.Value shown place value)) h f = omega arith
+pub ends-done : (words : List Bytes) (specs : List Spec) (input output : Stream) (bytes text : Bytes) → SaysAnalyses words specs
+    → WhereTold input.before input.after (λ xs ys. (bytes ≡ xs) × (ys ≡ [])) → length bytes ≤ script_limit → input.faults_after ≡ input.faults_before
+    → ((script : Script) × (script_of (length specs) bytes ≡ Ok script) × IsTextOf program (Replay false 1 specs) script 0 text)
+    → output.after ≡ append_known output.before text → output.faults_after ≡ output.faults_before → Ends program words input output 0 ending.Done
+ends-done words specs input output bytes text says all few still right put quiet = (
+  has-script words specs input bytes
+      (λ job read. (script : Script) × (read ≡ Ok script)
+      × ((held : Bytes) → output.before ≡ Some held → (t : Bytes) × (output.after ≡ Some (held ++ t)) × IsTextOf program job script 0 t))
+      says all few still (right.0, right.1, λ held e. (text, grown output.before output.after text held put e, right.2)),
+  still,
+  quiet,
+)
 
--- every reply may stand behind the front of the lines so far
-pub replies-follow : (specs : List Spec) (q : ℕ) (lines : List Line) (g : PlainGraph) (commands : List Command) (replies : List LogLine)
-    → AreReplies specs (record { seq = q; lines = lines; graph = g }) commands replies
-    → (k : ℕ) (r : LogLine) → slice_get replies k ≡ Some r → MayFollow (front lines) r
-unfolding AreReplies
-replies-follow specs q lines g [] [] h k r is = cc
-replies-follow specs q lines g [] (t ∷ replies) h k r is = absurd h
-replies-follow specs q lines g (c ∷ commands) [] h k r is = absurd h
-replies-follow specs q lines g (command.Change parts ∷ commands) (Answer a ∷ replies) h k r is = absurd h.0
-replies-follow specs q lines g (command.Value version a x ∷ commands) (Reply outcome ∷ replies) h k r is = absurd h.0
-replies-follow specs q lines g (command.Change parts ∷ commands) (Reply (Placed place) ∷ replies) h zero r is =
-    let same : r ≡ Reply (Placed place) = cc in let p = h.0.place_is in rw same (omega arith)
-replies-follow specs q lines g (command.Change parts ∷ commands) (Reply (Placed place) ∷ replies) h (suc k) r is =
-    let one = front-one lines (record { session = 0; seq = q; parts = parts }) in
-    follow-less (front lines) (front (lines ++ entry_of q parts ∷ [])) r (omega arith)
-    (replies-follow specs (q + 1) (lines ++ entry_of q parts ∷ []) (entered g parts) commands replies h.2 k r is)
-replies-follow specs q lines g (command.Value version a x ∷ commands) (Answer (answer.Value shown place value) ∷ replies) h zero r is =
-    let same : r ≡ Answer (answer.Value shown place value) = cc in let p = h.0.front_is in rw same (omega arith)
-replies-follow specs q lines g (command.Value version a x ∷ commands) (Answer (answer.Value shown place value) ∷ replies) h (suc k) r is =
-    replies-follow specs (q + 1) lines g commands replies h.2 k r is
+pub ends-cut : (words : List Bytes) (specs : List Spec) (input output : Stream) (bytes text : Bytes) → SaysAnalyses words specs
+    → WhereTold input.before input.after (λ xs ys. (bytes ≡ xs) × (ys ≡ [])) → length bytes ≤ script_limit → input.faults_after ≡ input.faults_before
+    → ((script : Script) × (script_of (length specs) bytes ≡ Ok script) × IsTextOf program (Replay false 1 specs) script 0 text)
+    → ((k : ℕ) × (k < length text) × (output.after ≡ append_known output.before (take k text))) → Rose output.faults_before output.faults_after
+    → Ends program words input output 0 ending.WriteFault
+ends-cut words specs input output bytes text says all few still right put rose = (
+  has-script words specs input bytes
+      (λ job read. (script : Script) × (read ≡ Ok script)
+      × ((held : Bytes) → output.before ≡ Some held
+      → (t : Bytes) × (k : ℕ) × (k < length t) × (output.after ≡ Some (held ++ take k t)) × IsTextOf program job script 0 t))
+      says all few still (right.0, right.1, λ held e. (text, put.0, put.1, grown output.before output.after (take put.0 text) held put.2 e, right.2)),
+  still,
+  rose,
+)
 
--- the replies of the session are in its order
-pub replies-in-order : (specs : List Spec) (q : ℕ) (lines : List Line) (g : PlainGraph) (commands : List Command) (replies : List LogLine)
-    → AreReplies specs (record { seq = q; lines = lines; graph = g }) commands replies
-    → (p k : ℕ) (b r : LogLine) → p < k → slice_get replies p ≡ Some b → slice_get replies k ≡ Some r → IfSome (number b) (λ n. MayFollow n r)
-unfolding AreReplies
-replies-in-order specs q lines g commands replies h p zero b r less was is = absurd (omega arith)
-replies-in-order specs q lines g [] [] h p (suc k) b r less was is = cc
-replies-in-order specs q lines g [] (t ∷ replies) h p (suc k) b r less was is = absurd h
-replies-in-order specs q lines g (c ∷ commands) [] h p (suc k) b r less was is = absurd h
-replies-in-order specs q lines g (command.Change parts ∷ commands) (Answer a ∷ replies) h p (suc k) b r less was is = absurd h.0
-replies-in-order specs q lines g (command.Value version a x ∷ commands) (Reply outcome ∷ replies) h p (suc k) b r less was is = absurd h.0
-replies-in-order specs q lines g (command.Change parts ∷ commands) (Reply (Placed place) ∷ replies) h zero (suc k) b r less was is =
-    let same : b ≡ Reply (Placed place) = cc in
-    let p : front (lines ++ entry_of q parts ∷ []) ≡ place = front-one lines (record { session = 0; seq = q; parts = parts }) ∙ sym h.0.place_is in
-    rw (same, ← p) (replies-follow specs (q + 1) (lines ++ entry_of q parts ∷ []) (entered g parts) commands replies h.2 k r is)
-replies-in-order specs q lines g (command.Change parts ∷ commands) (Reply (Placed place) ∷ replies) h (suc p) (suc k) b r less was is =
-    replies-in-order specs (q + 1) (lines ++ entry_of q parts ∷ []) (entered g parts) commands replies h.2 p k b r (omega arith) was is
-replies-in-order specs q lines g (command.Value version a x ∷ commands) (Answer (answer.Value shown place value) ∷ replies) h zero (suc k) b r less was is =
-    let same : b ≡ Answer (answer.Value shown place value) = cc in
-    rw (same, h.0.front_is) (replies-follow specs (q + 1) lines g commands replies h.2 k r is)
-replies-in-order specs q lines g (command.Value version a x ∷ commands) (Answer (answer.Value shown place value) ∷ replies) h (suc p) (suc k) b r less was is =
-    replies-in-order specs (q + 1) lines g commands replies h.2 p k b r (omega arith) was is
-
--- the graph now is the one after all lines
-pub next-graph : (opening g : PlainGraph) (lines : List Line) (q : ℕ) (parts : List Update) → g ≡ after opening lines (front lines)
-    → entered g parts ≡ after opening (lines ++ entry_of q parts ∷ []) (front (lines ++ entry_of q parts ∷ []))
-next-graph opening g lines q parts now =
-    let e : Entry = record { session = 0; seq = q; parts = parts } in
-    rw (front-one lines e) (ap (λ (x : PlainGraph). entered x parts) now ∙ sym (after-one opening lines e))
-
--- no entry past the front is refused on the graph of the place before it
-pub entries-accepted : (specs : List Spec) (opening : PlainGraph) (q : ℕ) (lines : List Line) (g : PlainGraph) (commands : List Command) (replies : List LogLine) (all : List Line)
-    → all ≡ lines ++ entries_from q commands → g ≡ after opening lines (front lines)
-    → AreReplies specs (record { seq = q; lines = lines; graph = g }) commands replies
-    → (v : ℕ) (e : Entry) → front lines < v → entry_at all v ≡ Some e → refusal_of (after opening all (v - 1)) e.parts ≡ None
-unfolding AreReplies
-entries-accepted specs opening q lines g [] [] all e now h v d past is =
-    let none : entry_at all v ≡ None = rw (no_lines all lines q e) (entry_at-past lines v past) in cc
-entries-accepted specs opening q lines g [] (r ∷ replies) all e now h v d past is = absurd h
-entries-accepted specs opening q lines g (c ∷ commands) [] all e now h v d past is = absurd h
-entries-accepted specs opening q lines g (command.Change parts ∷ commands) (Answer a ∷ replies) all e now h v d past is = absurd h.0
-entries-accepted specs opening q lines g (command.Value version a x ∷ commands) (Reply outcome ∷ replies) all e now h v d past is = absurd h.0
-entries-accepted specs opening q lines g (command.Change parts ∷ commands) (Reply (Placed place) ∷ replies) all e now h v d past is =
-    elim (apart (front lines) v past) [
-      | inl here ↦
-          let entry : entry_at all v ≡ Some (record { session = 0; seq = q; parts = parts }) =
-          rw (here, unfold_all all lines q parts commands e) (entry_at-here lines (record { session = 0; seq = q; parts = parts }) (entries_from (q + 1) commands)) in
-          let same : d ≡ record { session = 0; seq = q; parts = parts } = cc in
-          let before : v - 1 ≡ front lines = omega arith in
-          let graph : after opening all (front lines) ≡ g = rw e (after-append opening lines (entries_from q (command.Change parts ∷ commands)) ∙ sym now) in
-          rw (same, before, graph) h.0.accepted
-      | inr there ↦
-          entries-accepted specs opening (q + 1) (lines ++ entry_of q parts ∷ []) (entered g parts) commands replies all (joined all lines q parts commands e)
-          (next-graph opening g lines q parts now) h.2 v d (further lines q parts v there) is
-    ]
-entries-accepted specs opening q lines g (command.Value version a x ∷ commands) (Answer (answer.Value shown place value) ∷ replies) all e now h v d past is =
-    entries-accepted specs opening (q + 1) lines g commands replies all (value_lines all lines q version a x commands e) now h.2 v d past is
+pub ends-script : (words : List Bytes) (specs : List Spec) (input output : Stream) (bytes : Bytes) (number : ℕ) (why : Cause) → SaysAnalyses words specs
+    → WhereTold input.before input.after (λ xs ys. (bytes ≡ xs) × (ys ≡ [])) → length bytes ≤ script_limit → input.faults_after ≡ input.faults_before
+    → script_of (length specs) bytes ≡ Err (reported_cause number why) → IsUntouched output → Ends program words input output 0 (ending.Script number why)
+ends-script words specs input output bytes number why says all few still fault quiet = (
+  has-script words specs input bytes (λ job read. read ≡ Err (reported_cause number why)) says all few still fault,
+  still,
+  quiet,
+  refl,
+)

@@ -1,5 +1,5 @@
 pub mod Endings
-pub mod Journal
-pub mod Ready
+pub mod Playing
+pub mod Program
 pub mod Reports
-pub mod Steps
+pub mod Standing

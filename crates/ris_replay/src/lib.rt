@@ -3,8 +3,8 @@
 
 mod endings;
 mod jobs;
+mod places;
 mod plays;
-mod printing;
 mod reports;
 mod runs;
 mod standings;

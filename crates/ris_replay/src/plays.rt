@@ -1,14 +1,15 @@
-ghost use Rattle.std.specs.Prelude.{◌≡◌, ◌<◌, ◌≤◌, ◌^◌, ◌++◌, ℕ, IfOk, length};
+ghost use Rattle.std.specs.Prelude.{◌≡◌, ◌+◌, ◌<◌, ◌≤◌, [], ◌∷◌, IfOk, length};
 ghost use Rattle.std.specs.List.{All};
-ghost use Rattle.ris_base.specs.Script.{numbers_below};
-ghost use Rattle.ris_base.specs.Transcript.{IsTranscriptOf};
-ghost use Rattle.ris_script.specs.Shape.{HasOneSession, IsBuilt};
-ghost use Rattle.ris_replay.specs.Journal.{transcript_of};
-ghost use Rattle.ris_replay.specs.Ready.{IsReady};
-ghost use Rattle.ris_replay.specs.Steps.{AreReplies, opening_standing, stands_after};
+ghost use Rattle.ris_base.specs.Graph.{IsProper};
+ghost use Rattle.ris_base.specs.Shape.{IsReadable};
+ghost use Rattle.ris_base.specs.Transcript.{asked_in, replies_in, setup_of};
+ghost use Rattle.ris_replay.specs.Playing.{AreAnswered, AreTaken};
+ghost use Rattle.ris_replay.specs.Standing.{IsPlayed, IsReady, IsTaken};
 
+use crate::places::numbers;
 use crate::standings::Standing;
-use ris_base::{Commands, Lines, Log, Logs, NoMemory, PlainGraph, Script, Specs, Vertices};
+use ris_base::{Commands, Lines, Log, Logs, NoMemory, PlainGraph, Script, Specs};
+use ris_four::plain_copy;
 use std::alloc::Global;
 use std::thread::Threads;
 
@@ -19,25 +20,27 @@ pub struct Played {
     pub lines: Lines,
 }
 
-/// Replays a script of one session with some analyses. No visits are made.
+/// Replays a script of one session with some analyses. No visits are made: a value is computed from the graph of its place
+/// by the definition.
 pub fn play<R: Threads + Sync>(
     rt: &R,
     alloc: Global,
     script: Script,
     specs: &Specs,
 ) -> Result<Played, NoMemory>
-    requires session { HasOneSession script }
-    requires some { 0 < length specs.now }
-    ensures { IfOk result (λ played. (visits : ℕ) → visits < 2 ^ 64
-        → IsTranscriptOf script specs.now (transcript_of played.logs played.lines visits)) }
+    requires readable { IsReadable (length specs.now) script }
+    requires taken { AreTaken (length specs.now) script }
+    ensures { IfOk result (λ played. AreAnswered script specs.now played.logs played.lines) }
 {
     let Script {
+        format,
         vertices,
         sessions: _,
         base,
         commands: mut lists,
     } = script;
-    let graph = PlainGraph {
+    let opening = PlainGraph {
+        format,
         vertices: numbers(alloc, vertices)?,
         triples: base,
     };
@@ -46,58 +49,33 @@ pub fn play<R: Threads + Sync>(
         Some(commands) => commands,
         None => unreachable!(),
     };
-    let session = handle_all(rt, alloc, graph, specs, commands)?;
-    logs.push(session.log)?;
-    Ok(Played {
-        logs,
-        lines: session.lines,
-    })
+    let Standing { lines, log, .. } = answer_all(rt, alloc, opening, specs, commands)?;
+    logs.push(log)?;
+    Ok(Played { logs, lines })
 }
 
-/// The numbers from 0 up to `n` less one.
-fn numbers(alloc: Global, n: u32) -> Result<Vertices, NoMemory>
-    ensures { IfOk result (λ numbers. numbers ≡ numbers_below n) }
-{
-    let mut numbers = Vertices::with_room(alloc, u64::from(n))?;
-    for x in 0..n {
-        numbers.push(x)?;
-    }
-    Ok(numbers)
-}
-
-/// What the commands of one session give: its replies, and the serial list.
-#[derive(Drop)]
-struct Session {
-    log: Log,
-    lines: Lines,
-}
-
-/// Handles the commands of one session, one after another.
-fn handle_all<R: Threads + Sync>(
+/// Answers the commands of a session, one after another.
+fn answer_all<R: Threads + Sync>(
     rt: &R,
     alloc: Global,
-    graph: PlainGraph,
+    opening: PlainGraph,
     specs: &Specs,
     mut commands: Commands,
-) -> Result<Session, NoMemory>
-    requires ready { IsReady (opening_standing graph) }
-    requires built { All (IsBuilt (length graph.vertices)) commands }
-    requires some { 0 < length specs.now }
-    ensures few { length commands < 2 ^ 64 }
-    ensures replies { IfOk result (λ session. AreReplies specs.now (opening_standing graph) commands session.log) }
-    ensures lines { IfOk result (λ session. session.lines ≡ (stands_after (opening_standing graph) commands).lines) }
+) -> Result<Standing, NoMemory>
+    requires proper { IsProper opening }
+    requires taken { All (IsTaken (length specs.now)) commands }
+    ensures opening { IfOk result (λ standing. standing.opening ≡ opening) }
+    ensures all { IfOk result (λ standing. length standing.log ≡ length commands) }
+    ensures played { IfOk result (λ standing. IsPlayed specs.now commands standing) }
 {
-    let count = commands.len();
-    let mut log = Log::with_room(alloc, count)?;
     let mut standing = Standing {
-        seq: 0,
+        graph: plain_copy(alloc, &opening)?,
+        opening,
         lines: Lines::new(alloc),
-        graph,
+        log: Log::with_room(alloc, commands.len())?,
     };
     while let Some(command) = commands.take_first() {
-        let reply = standing.handle(rt, alloc, specs, command)?;
-        log.push(reply)?;
+        standing.answer(rt, alloc, specs, command)?;
     }
-    let Standing { lines, .. } = standing;
-    Ok(Session { log, lines })
+    Ok(standing)
 }

@@ -1,4 +1,4 @@
-ghost use Rattle.std.specs.Prelude.{◌≡◌, ◌≢◌, ◌≤◌, ◌↔◌, ◌++◌, ℕ, List, Option, Some, None, IsSome, length, take, map, OnOk, OnErr, codes, decimal, []};
+ghost use Rattle.std.specs.Prelude.{◌≡◌, ◌≢◌, ◌<◌, ◌↔◌, ◌++◌, ℕ, List, Option, Some, None, IsSome, length, take, map, OnOk, OnErr, codes, decimal, []};
 ghost use Rattle.std.specs.Io.KnownBytes.{append_known};
 ghost use Rattle.ris_base.specs.Causes.{HasCause};
 ghost use Rattle.ris_base.specs.Status.{status_line, cause_word, script_line};
@@ -20,7 +20,7 @@ pub fn put_fault<F: Sink>(
     requires refused { status.now ≢ Status.Ok }
     requires fault { IsSome fault ↔ (status.now ≡ Status.Script) }
     ensures ok { OnOk result (F.held faults.new ≡ append_known (F.held faults.old) (status_line status.now (reported fault))) }
-    ensures cut { OnErr result ((k : ℕ) × (k ≤ length (status_line status.now (reported fault)))
+    ensures cut { OnErr result ((k : ℕ) × (k < length (status_line status.now (reported fault)))
         × (F.held faults.new ≡ append_known (F.held faults.old) (take k (status_line status.now (reported fault))))) }
     ensures cause { HasCause (F.faults faults.old) (F.faults faults.new) result }
 {
@@ -41,7 +41,7 @@ pub fn put_fault<F: Sink>(
 /// Writes the line of a fault of the script: its pieces one after another, none behind one that failed.
 fn put_script_fault<F: Sink>(number: u64, cause: Cause, faults: &mut F) -> Result<(), WriteFault>
     ensures ok { OnOk result (F.held faults.new ≡ append_known (F.held faults.old) (script_line (reported_cause number cause))) }
-    ensures cut { OnErr result ((k : ℕ) × (k ≤ length (script_line (reported_cause number cause)))
+    ensures cut { OnErr result ((k : ℕ) × (k < length (script_line (reported_cause number cause)))
         × (F.held faults.new ≡ append_known (F.held faults.old) (take k (script_line (reported_cause number cause))))) }
     ensures cause { HasCause (F.faults faults.old) (F.faults faults.new) result }
 {
@@ -64,14 +64,23 @@ fn cause_text(cause: Cause) -> &'static [u8]
     ensures { result.now ≡ cause_word cause }
 {
     match cause {
-        Cause::Unbuilt => b"unbuilt",
+        Cause::Header => b"header",
+        Cause::Base => b"base",
+        Cause::Field => b"field",
+        Cause::Session => b"session",
+        Cause::Left => b"left",
+        Cause::Op => b"op",
+        Cause::Analysis => b"analysis",
+        Cause::Inside => b"inside",
+        Cause::Close => b"close",
+        Cause::Parts => b"parts",
     }
 }
 
 /// Writes pieces one after another, none behind one that failed.
 fn put_pieces<F: Sink>(pieces: &[&[u8]], faults: &mut F) -> Result<(), WriteFault>
     ensures ok { OnOk result (F.held faults.new ≡ append_known (F.held faults.old) (concat (map (λ piece. piece.now) pieces.now))) }
-    ensures cut { OnErr result ((k : ℕ) × (k ≤ length (concat (map (λ piece. piece.now) pieces.now)))
+    ensures cut { OnErr result ((k : ℕ) × (k < length (concat (map (λ piece. piece.now) pieces.now)))
         × (F.held faults.new ≡ append_known (F.held faults.old) (take k (concat (map (λ piece. piece.now) pieces.now))))) }
     ensures cause { HasCause (F.faults faults.old) (F.faults faults.new) result }
 {

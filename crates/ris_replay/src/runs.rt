@@ -1,20 +1,22 @@
-ghost use Rattle.std.specs.Prelude.{◌≡◌, ◌≢◌, ◌↔◌, ◌∷◌, ◌++◌, [], ◌-◌, ℕ, length, IfOk, OnErr, Err, Ok};
-ghost use Rattle.ris_base.specs.Status.{Grew, status_line, stream_of, IsCause, IsExact, PassesNone, Reports, IsUntouched, IsAnswered, IsCutShort};
-ghost use Rattle.ris_base.specs.Transcript.{IsTranscriptOf, spelling};
-ghost use Rattle.ris_base.specs.declared.statuses.Status.TheVariants as status;
+ghost use Rattle.std.specs.Prelude.{◌≡◌, ◌-◌, ◌≤◌, ℕ, false, length, IfOk, Err, Ok};
+ghost use Rattle.ris_base.specs.Status.{Grew, IsTextOf, IsUntouched, status_line, stream_of};
+ghost use Rattle.ris_base.specs.declared.jobs.Job.TheVariants as job;
+ghost use Rattle.ris_base.specs.declared.scripts.Script.{Script};
 ghost use Rattle.ris_script.specs.Bytes.{script_of};
-ghost use Rattle.ris_replay.specs.Endings.{Ends, IsTextOf, fault_of, script_for, status_of};
-ghost use Rattle.ris_replay.specs.Reports.{reported_cause};
 ghost use Rattle.ris_script.specs.declared.faults.ScriptError.TheVariants as error;
+ghost use Rattle.ris_replay.specs.Endings.{Ends, fault_of, status_of};
+ghost use Rattle.ris_replay.specs.Program.{IsRun, program};
+ghost use Rattle.ris_replay.specs.Reports.{reported_cause};
 
 use crate::endings::Ending;
-use crate::jobs::job_analysis;
+use crate::jobs::job_analyses;
 use crate::plays::play;
-use crate::printing::transcript_text;
 use crate::put_fault;
-use ris_base::{Gate, Meter, NoMemory, SCRIPT_LIMIT, Spec, Specs, Status, Words};
+use ris_base::{Gate, Meter, SCRIPT_LIMIT, Specs, Status, Text, Words};
 use ris_io::{ReadError, Sink, Source, put_all, read_all};
 use ris_script::{ScriptError, read_script};
+use ris_text::transcript_text;
+use ris_words::WordsError;
 use std::alloc::Global;
 use std::sync::Wait;
 use std::thread::Threads;
@@ -31,51 +33,22 @@ pub fn run<R: Threads + Wait + Sync, I: Source, O: Sink, F: Sink, M: Meter, G: G
     meter: &mut M,
     gate: &G,
 ) -> Status
-    // Each status has its cause, and each cause its status.
-    ensures usage { (result ≡ Status.Usage)
-        ↔ IsCause script_for words.now (stream_of I.left I.faults input.old input.new)
-        (stream_of O.held O.faults out.old out.new) Status.Usage }
-    ensures read_fault { IsExact script_for words.now (stream_of I.left I.faults input.old input.new)
-        (stream_of O.held O.faults out.old out.new) result Status.ReadFault }
-    ensures too_long { IsExact script_for words.now (stream_of I.left I.faults input.old input.new)
-        (stream_of O.held O.faults out.old out.new) result Status.TooLong }
-    ensures script { IsExact script_for words.now (stream_of I.left I.faults input.old input.new)
-        (stream_of O.held O.faults out.old out.new) result Status.Script }
-    ensures write_fault { IsExact script_for words.now (stream_of I.left I.faults input.old input.new)
-        (stream_of O.held O.faults out.old out.new) result Status.WriteFault }
-    ensures ok { IsExact script_for words.now (stream_of I.left I.faults input.old input.new)
-        (stream_of O.held O.faults out.old out.new) result Status.Ok }
-
-    // No fault is passed over.
-    ensures no_read_passed { PassesNone (stream_of I.left I.faults input.old input.new) result Status.ReadFault }
-    ensures no_write_passed { PassesNone (stream_of O.held O.faults out.old out.new) result Status.WriteFault }
-
-    // The line of the status, and nothing else, goes to the faults.
-    ensures report { Reports script_for words.now (stream_of I.left I.faults input.old input.new)
-        (stream_of F.held F.faults faults.old faults.new) result }
-
-    // The headline, and what stands in the output otherwise.
-    ensures headline { result ≡ Status.Ok
-        → IsAnswered script_for words.now
-        (stream_of I.left I.faults input.old input.new) (stream_of O.held O.faults out.old out.new)
-        (M.ticks meter.new - M.ticks meter.old) }
-    ensures cut_short { result ≡ Status.WriteFault
-        → IsCutShort script_for words.now
-        (stream_of I.left I.faults input.old input.new) (stream_of O.held O.faults out.old out.new)
-        (M.ticks meter.new - M.ticks meter.old) }
-    ensures untouched { result ≢ Status.Ok → result ≢ Status.WriteFault
-        → IsUntouched (stream_of O.held O.faults out.old out.new) }
+    ensures run { IsRun words.now (stream_of I.left I.faults input.old input.new) (stream_of O.held O.faults out.old out.new)
+        (stream_of F.held F.faults faults.old faults.new) (M.ticks meter.new - M.ticks meter.old) result }
+    ensures ticks { M.ticks meter.old ≤ M.ticks meter.new }
 {
     run_inline(rt, alloc, words, input, out, faults, meter, gate)
 }
 
-/// Runs the command that the words say, and reports how it ended on the faults: `replay --analyses bfs:r` reads a script
+/// Runs the command that the words say, and reports how it ended on the faults: `replay --analyses LIST` reads a script
 /// from the input to its end, replays it, and writes its transcript to the output. It always returns.
 ///
 /// `Usage` for other words; `ReadFault` where a read failed; `TooLong` where the input has more than 67,108,864 bytes;
 /// `Script` where its bytes spell no script; `WriteFault` where a write failed; `NoMemory` where memory was wanted, all of
 /// which is taken before the first byte is written. The faults grow by the line of the status, or by a prefix of it where
 /// their own count of faults rose; that changes no status.
+///
+/// Each change takes time with the size of the graph, and each read of a value rounds over all vertices.
 pub fn run_inline<R: Threads + Sync, I: Source, O: Sink, F: Sink, M: Meter, G: Gate>(
     rt: &R,
     alloc: Global,
@@ -86,40 +59,9 @@ pub fn run_inline<R: Threads + Sync, I: Source, O: Sink, F: Sink, M: Meter, G: G
     meter: &mut M,
     gate: &G,
 ) -> Status
-    // Each status has its cause, and each cause its status.
-    ensures usage { (result ≡ Status.Usage)
-        ↔ IsCause script_for words.now (stream_of I.left I.faults input.old input.new)
-        (stream_of O.held O.faults out.old out.new) Status.Usage }
-    ensures read_fault { IsExact script_for words.now (stream_of I.left I.faults input.old input.new)
-        (stream_of O.held O.faults out.old out.new) result Status.ReadFault }
-    ensures too_long { IsExact script_for words.now (stream_of I.left I.faults input.old input.new)
-        (stream_of O.held O.faults out.old out.new) result Status.TooLong }
-    ensures script { IsExact script_for words.now (stream_of I.left I.faults input.old input.new)
-        (stream_of O.held O.faults out.old out.new) result Status.Script }
-    ensures write_fault { IsExact script_for words.now (stream_of I.left I.faults input.old input.new)
-        (stream_of O.held O.faults out.old out.new) result Status.WriteFault }
-    ensures ok { IsExact script_for words.now (stream_of I.left I.faults input.old input.new)
-        (stream_of O.held O.faults out.old out.new) result Status.Ok }
-
-    // No fault is passed over.
-    ensures no_read_passed { PassesNone (stream_of I.left I.faults input.old input.new) result Status.ReadFault }
-    ensures no_write_passed { PassesNone (stream_of O.held O.faults out.old out.new) result Status.WriteFault }
-
-    // The line of the status, and nothing else, goes to the faults.
-    ensures report { Reports script_for words.now (stream_of I.left I.faults input.old input.new)
-        (stream_of F.held F.faults faults.old faults.new) result }
-
-    // The headline, and what stands in the output otherwise.
-    ensures headline { result ≡ Status.Ok
-        → IsAnswered script_for words.now
-        (stream_of I.left I.faults input.old input.new) (stream_of O.held O.faults out.old out.new)
-        (M.ticks meter.new - M.ticks meter.old) }
-    ensures cut_short { result ≡ Status.WriteFault
-        → IsCutShort script_for words.now
-        (stream_of I.left I.faults input.old input.new) (stream_of O.held O.faults out.old out.new)
-        (M.ticks meter.new - M.ticks meter.old) }
-    ensures untouched { result ≢ Status.Ok → result ≢ Status.WriteFault
-        → IsUntouched (stream_of O.held O.faults out.old out.new) }
+    ensures run { IsRun words.now (stream_of I.left I.faults input.old input.new) (stream_of O.held O.faults out.old out.new)
+        (stream_of F.held F.faults faults.old faults.new) (M.ticks meter.new - M.ticks meter.old) result }
+    ensures ticks { M.ticks meter.old ≤ M.ticks meter.new }
 {
     let ending = answer(rt, alloc, words, input, out);
     report(ending, faults)
@@ -133,11 +75,13 @@ fn answer<R: Threads + Sync, I: Source, O: Sink>(
     input: &mut I,
     out: &mut O,
 ) -> Ending
-    ensures { Ends words.now (stream_of I.left I.faults input.old input.new)
-        (stream_of O.held O.faults out.old out.new) result }
+    ensures { Ends program words.now (stream_of I.left I.faults input.old input.new)
+        (stream_of O.held O.faults out.old out.new) 0 result }
 {
-    let Some(spec) = job_analysis(words) else {
-        return Ending::Usage;
+    let specs = match job_analyses(alloc, words) {
+        Ok(specs) => specs,
+        Err(WordsError::Usage) => return Ending::Usage,
+        Err(WordsError::NoMemory) => return Ending::NoMemory,
     };
     let bytes = match read_all(alloc, input, SCRIPT_LIMIT) {
         Ok(bytes) => bytes.into_vec(),
@@ -145,8 +89,8 @@ fn answer<R: Threads + Sync, I: Source, O: Sink>(
         Err(ReadError::TooLong) => return Ending::TooLong,
         Err(ReadError::NoMemory) => return Ending::NoMemory,
     };
-    match transcript(rt, alloc, spec, &bytes) {
-        Ok(text) => match put_all(out, &text) {
+    match transcript(rt, alloc, &specs, &bytes) {
+        Ok(text) => match put_all(out, &text.into_vec()) {
             Ok(()) => Ending::Done,
             Err(_) => Ending::WriteFault,
         },
@@ -160,6 +104,7 @@ fn report<F: Sink>(ending: Ending, faults: &mut F) -> Status
     ensures status { result ≡ status_of ending }
     ensures line { Grew (stream_of F.held F.faults faults.old faults.new)
         (status_line (status_of ending) (fault_of ending)) }
+    ensures ok { status_of ending ≡ Status.Ok → IsUntouched (stream_of F.held F.faults faults.old faults.new) }
 {
     let (status, fault) = match ending {
         Ending::Done => return Status::Ok,
@@ -178,17 +123,17 @@ fn report<F: Sink>(ending: Ending, faults: &mut F) -> Status
 fn transcript<R: Threads + Sync>(
     rt: &R,
     alloc: Global,
-    spec: Spec,
+    specs: &Specs,
     bytes: &[u8],
-) -> Result<Vec<u8>, ScriptError>
-    ensures text { IfOk result (λ text. IsTextOf (spec ∷ []) bytes.now text.items) }
+) -> Result<Text, ScriptError>
+    requires { length specs.now ≤ 4 }
+    ensures text { IfOk result (λ text. (script : Script) × (script_of (length specs.now) bytes.now ≡ Ok script)
+        × IsTextOf program (job.Replay false 1 specs.now) script 0 text) }
     ensures fault { (number : ℕ) (cause : _) → result ≡ Err (error.Fault number cause)
-        → script_of 1 bytes.now ≡ Err (reported_cause number cause) }
+        → script_of (length specs.now) bytes.now ≡ Err (reported_cause number cause) }
 {
-    let mut specs = Specs::new(alloc);
-    specs.push(spec)?;
-    let script = read_script(alloc, bytes, 1)?;
-    let played = play(rt, alloc, script, &specs)?;
+    let script = read_script(alloc, bytes, specs.len() as u32)?;
+    let played = play(rt, alloc, script, specs)?;
     let text = transcript_text(alloc, &played.logs, &played.lines, 0)?;
     Ok(text)
 }

@@ -1,115 +1,140 @@
-ghost use Rattle.std.specs.Prelude.{◌≡◌, ◌∷◌, [], ◌+◌, ◌<◌, ◌≤◌, ◌^◌, ℕ, IfOk, Some, slice_get, length, MatchOption};
-ghost use Rattle.ris_base.specs.Transcript.{AreSmall, value_numbers, reply_numbers};
-ghost use Rattle.ris_base.specs.declared.commands.Version.TheVariants as version;
-ghost use Rattle.ris_base.specs.declared.updates.Update.TheVariants as update;
-ghost use Rattle.ris_script.specs.Shape.{IsBuilt, AddsEdge};
+ghost use Rattle.std.specs.Prelude.{◌≡◌, ◌+◌, ◌<◌, ◌≤◌, IfOk, OnOk, length, slice_get, MatchOption};
+ghost use Rattle.ris_base.specs.Requests.{after};
+ghost use Rattle.ris_base.specs.Value.{AreValues};
 
+use crate::places::graph_after;
 use ris_base::{
-    Command, Entry, Line, Lines, LogLine, NoMemory, Outcome, Parts, PlainGraph, ReadAnswer, Specs,
-    Triple, Update, Value, Values,
+    Command, Entry, Line, Lines, Log, LogLine, NoMemory, Outcome, Parts, PlainGraph, ReadAnswer,
+    ReadRefusal, Spec, Specs, Value, Values, Version,
 };
-use ris_four::plain_values;
+use ris_four::{plain_entered, plain_values};
 use std::alloc::Global;
 use std::thread::Threads;
 
-/// Where a run of one session stands between two commands: the number of the next command, the serial list so far,
-/// and the graph after it.
+/// Where a run of one session stands between two commands: the graph of place 0, that of the last place, the serial list,
+/// each line of which is an entry, and the replies.
 #[derive(Drop)]
 pub struct Standing {
-    pub seq: u64,
-    pub lines: Lines,
+    pub opening: PlainGraph,
     pub graph: PlainGraph,
+    pub lines: Lines,
+    pub log: Log,
 }
 
 impl Standing {
-    ghost use Rattle.ris_replay.specs.Steps.{next, Replies};
-    ghost use Rattle.ris_replay.specs.Ready.{IsReady, Handles};
+    ghost use Rattle.ris_replay.specs.Standing.{Answers, IsReady, IsRight, IsTaken};
 
-    /// Handles a command, and gives its reply: the place of an entry, or the value at the newest place.
-    pub fn handle<R: Threads + Sync>(
+    /// Answers a command, and logs the reply.
+    pub fn answer<R: Threads + Sync>(
         &mut self,
         rt: &R,
         alloc: Global,
         specs: &Specs,
         command: Command,
-    ) -> Result<LogLine, NoMemory>
+    ) -> Result<(), NoMemory>
         requires ready { IsReady self.old }
-        requires built { IsBuilt (length self.old.graph.vertices) command }
-        requires room { self.old.seq + 1 < 2 ^ 64 }
-        requires some { 0 < length specs.now }
-        ensures { IfOk result (λ reply. Handles specs.now self.old command reply self.new) }
+        requires taken { IsTaken (length specs.now) command }
+        ensures opening { self.new.opening ≡ self.old.opening }
+        ensures ready { OnOk result (IsReady self.new) }
+        ensures logged { OnOk result (length self.new.log ≡ length self.old.log + 1) }
+        ensures answered { OnOk result (Answers specs.now command self.old self.new) }
     {
         match command {
-            Command::Change(parts) => self.accept(parts),
-            Command::Value(_, analysis, x) => {
-                let reply = self.answer(rt, alloc, specs, analysis, x)?;
-                self.seq += 1;
-                Ok(reply)
+            Command::Change(parts) => self.change(alloc, parts),
+            Command::Value(version, analysis, x) => {
+                let reply = self.value(rt, alloc, specs, version, analysis, x)?;
+                self.log.push(reply)
             }
+            Command::Release(_)
+            | Command::Leave
+            | Command::Parent(..)
+            | Command::Path(..)
+            | Command::Modified(..)
+            | Command::Current => unreachable!(),
         }
     }
 
-    /// Accepts a change of one edge more as the next entry.
-    fn accept(&mut self, parts: Parts) -> Result<LogLine, NoMemory>
+    /// Enters a change as the next entry, or refuses it; the reply is logged.
+    fn change(&mut self, alloc: Global, parts: Parts) -> Result<(), NoMemory>
         requires ready { IsReady self.old }
-        requires edge { AddsEdge (length self.old.graph.vertices) (Command.Change parts) }
-        requires room { self.old.seq + 1 < 2 ^ 64 }
-        ensures { (specs : _) → IfOk result (λ reply. Handles specs self.old (Command.Change parts) reply self.new) }
+        ensures opening { self.new.opening ≡ self.old.opening }
+        ensures ready { OnOk result (IsReady self.new) }
+        ensures logged { OnOk result (length self.new.log ≡ length self.old.log + 1) }
+        ensures answered { (specs : _) → OnOk result (Answers specs (Command.Change parts) self.old self.new) }
     {
-        let triple = match parts.get(0) {
-            Some(Update::AddE { u, v, w }) => Triple {
-                source: *u as u32,
-                target: *v as u32,
-                weight: *w,
-            },
-            _ => unreachable!(),
-        };
-        self.graph.triples.push(triple)?;
-        let entry = Entry {
-            session: 0,
-            seq: self.seq,
-            parts,
-        };
-        self.lines.push(Line::Entry(entry))?;
-        self.seq += 1;
-        Ok(LogLine::Reply(Outcome::Placed {
-            place: self.lines.len(),
-        }))
+        match plain_entered(alloc, &self.graph, &parts, self.lines.len()) {
+            Ok(graph) => {
+                let seq = self.log.len();
+                self.lines.push(Line::Entry(Entry {
+                    session: 0,
+                    seq,
+                    parts,
+                }))?;
+                self.graph = graph;
+                let place = self.lines.len();
+                self.log.push(LogLine::Reply(Outcome::Placed { place }))
+            }
+            Err(refusal) => self.log.push(LogLine::Reply(Outcome::Refused(refusal))),
+        }
     }
 
-    /// Answers a read of the newest place from the values of the graph now.
-    fn answer<R: Threads + Sync>(
+    /// The reply to a read of a value.
+    fn value<R: Threads + Sync>(
         &self,
         rt: &R,
         alloc: Global,
         specs: &Specs,
+        version: Version,
         analysis: u32,
         x: u64,
     ) -> Result<LogLine, NoMemory>
         requires ready { IsReady self.now }
         requires analysis { analysis < length specs.now }
-        ensures right { IfOk result (λ reply. Replies specs.now self.now (Command.Value version.Last analysis x) reply) }
-        ensures small { IfOk result (λ reply. AreSmall (reply_numbers reply)) }
+        ensures { IfOk result (IsRight specs.now self.now (Command.Value version analysis x)) }
     {
+        let front = self.lines.len();
+        let place = match version {
+            Version::Last => front,
+            Version::At(place) => place,
+        };
+        if place > front {
+            return Ok(LogLine::Denied(ReadRefusal::NotYet { front }));
+        }
         let spec = *specs.at(u64::from(analysis));
-        let values = plain_values(rt, alloc, &self.graph, spec)?;
-        let place = self.lines.len();
+        let values = self.values_at(rt, alloc, spec, place)?;
         Ok(LogLine::Answer(ReadAnswer::Value {
-            front: place,
+            front,
             place,
             value: value_at(&values, x),
         }))
+    }
+
+    /// The values of an analysis at a place.
+    fn values_at<R: Threads + Sync>(
+        &self,
+        rt: &R,
+        alloc: Global,
+        spec: Spec,
+        place: u64,
+    ) -> Result<Values, NoMemory>
+        requires ready { IsReady self.now }
+        requires made { place ≤ length self.now.lines }
+        ensures { IfOk result (AreValues (after self.now.opening self.now.lines place) spec) }
+    {
+        if place == self.lines.len() {
+            return plain_values(rt, alloc, &self.graph, spec);
+        }
+        let graph = graph_after(alloc, &self.opening, &self.lines, place)?;
+        plain_values(rt, alloc, &graph, spec)
     }
 }
 
 /// The value at a place of a list of values, absent past its end.
 fn value_at(values: &Values, x: u64) -> Value
-    ensures value { MatchOption (slice_get values.now x) (result ≡ Value.Absent) (λ value. result ≡ value) }
-    ensures small { AreSmall (value_numbers result) }
+    ensures { MatchOption (slice_get values.now x) (result ≡ Value.Absent) (λ value. result ≡ value) }
 {
     match values.get(x) {
-        Some(Value::Num(number)) => Value::Num(*number),
-        Some(Value::Unreached) => Value::Unreached,
-        Some(Value::Absent) | None => Value::Absent,
+        Some(value) => *value,
+        None => Value::Absent,
     }
 }

@@ -93,17 +93,17 @@ fn expect<R: Threads + Sync + AllocGlobal + Abort>(
     Ok(())
 }
 
-const WORDS: &str = "replay --analyses bfs:0";
+const WORDS: &str = "replay --analyses bfs:0,sswp:0,wcc";
 
 const FIRST: &[u8] = b"risgraph,1,3,1\n0,adde,0,1,5\n0,value,last,0,1\n";
 
 const FIRST_TEXT: &str = "0,0,place,1\n0,1,value,1,1,1\njournal,entry,1,0,0\nsummary,1,0,0,0\n";
 
-const GROWING: &[u8] =
-    b"risgraph,1,4,1\n0,adde,0,1,9\n0,adde,1,2,9\n0,value,last,0,2\n0,adde,0,2,9\n0,value,last,0,2\n0,value,last,0,3\n0,value,last,0,7\n";
+const CHANGING: &[u8] =
+    b"risgraph,2,4,1\nbase,0,1,7\n0,begin\n0,adde,1,2,3\n0,setw,0,1,7,9\n0,commit\n0,value,last,1,2\n0,value,@0,0,2\n0,delv,1\n0,dele,0,1,9\n0,adde,0,9,1\n0,value,last,2,1\n0,value,@3,0,0\n0,value,last,0,3\n";
 
-const GROWING_TEXT: &str =
-    "0,0,place,1\n0,1,place,2\n0,2,value,2,2,2\n0,3,place,3\n0,4,value,3,3,1\n0,5,value,3,3,unreached\n0,6,value,3,3,absent\njournal,entry,1,0,0\njournal,entry,2,0,1\njournal,entry,3,0,3\nsummary,3,0,0,0\n";
+const CHANGING_TEXT: &str =
+    "0,0,place,1\n0,1,value,1,1,3\n0,2,value,1,0,unreached\n0,3,place,2\n0,4,novertex,2,1,1\n0,5,novertex,2,1,9\n0,6,value,2,2,absent\n0,7,notyet,2\n0,8,value,2,2,unreached\njournal,entry,1,0,0\njournal,entry,2,0,3\nsummary,2,0,3,0\n";
 
 fn done(out: &'static str) -> Wanted<'static> {
     Wanted {
@@ -129,7 +129,7 @@ fn scripts_give_their_transcripts(rt: HostRuntime) -> Result<(), Fail> {
         over(WORDS, b"risgraph,1,3,1"),
         done("summary,0,0,0,0\n"),
     )?;
-    expect(&rt, over(WORDS, GROWING), done(GROWING_TEXT))
+    expect(&rt, over(WORDS, CHANGING), done(CHANGING_TEXT))
 }
 
 #[test]
@@ -143,7 +143,8 @@ fn each_status_has_its_line(rt: HostRuntime) -> Result<(), Fail> {
         "replay --analyses bfs:",
         "replay --analyses bfs:4194304",
         "replay --analyses bfs:00000000",
-        "replay --analyses wcc",
+        "replay --analyses wcc,",
+        "replay --analyses wcc,wcc,wcc,wcc,wcc",
         "replay --analyses bfs:0 more",
         "replay --analysis bfs:0",
     ] {
@@ -151,13 +152,13 @@ fn each_status_has_its_line(rt: HostRuntime) -> Result<(), Fail> {
     }
     expect(
         &rt,
-        over(WORDS, b"risgraph,1,3,1\n0,adde,0,3,5\n"),
-        refused(Status::Script, "ris: script: record 2: unbuilt\n"),
+        over(WORDS, b"risgraph,1,3,1\n0,path,last,0,2\n"),
+        refused(Status::Script, "ris: script: record 2: op\n"),
     )?;
     expect(
         &rt,
         over(WORDS, b""),
-        refused(Status::Script, "ris: script: record 1: unbuilt\n"),
+        refused(Status::Script, "ris: script: record 1: header\n"),
     )
 }
 
@@ -230,6 +231,6 @@ fn a_script_has_a_greatest_length(rt: HostRuntime) -> Result<(), Fail> {
     expect(
         &rt,
         shorter,
-        refused(Status::Script, "ris: script: record 1: unbuilt\n"),
+        refused(Status::Script, "ris: script: record 1: header\n"),
     )
 }

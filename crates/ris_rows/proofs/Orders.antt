@@ -40,3 +40,6 @@ below-back a b c d h = grind (arith, nat_tests)
 
 pub same-back : (a b c d : ℕ) → below a b c d ≡ true → (c == a && d == b) ≡ false
 same-back a b c d h = grind (arith, nat_tests)
+
+pub below-not_same : (a b c d : ℕ) → (a == c && b == d) ≡ true → below a b c d ≡ false
+below-not_same a b c d h = grind (arith, nat_tests)

@@ -1,10 +1,10 @@
 -- Where the neighbour of an end and a weight stands in an ascending list.
-use Rattle.std.proofs.Common.{◌≡◌, ℕ, zero, suc, ◌<◌, ◌≤◌, true, false, List, [], ◌∷◌, length, get_or, arith, refl, inl, inr, sym, ap, ◌∙◌, ◌↔◌}
+use Rattle.std.proofs.Common.{◌≡◌, ℕ, zero, suc, ◌-◌, ◌<◌, ◌≤◌, true, false, List, [], ◌∷◌, length, get_or, arith, refl, inl, inr, sym, ap, ◌∙◌}
 use Rattle.std.specs.List.Sorted.{IsPartitionPoint, IsPartitionedBy}
-use Rattle.std.proofs.lemmas.Bool.{cases_Bool, both_ways}
+use Rattle.std.proofs.lemmas.Bool.{cases_Bool, cases_lt, both_ways}
 use Rattle.ris_rows.specs.declared.neighbours.Neighbour.{Neighbour}
 use Rattle.ris_rows.specs.Neighbours.{is_before, is_of, IsBeforeAll, IsAscending, place_of, has, copies_of}
-use Rattle.ris_rows.proofs.Orders.{below-trans, below-same, same-past}
+use Rattle.ris_rows.proofs.Orders.{below-trans, below-same, below-not_same, same-past, same-first, same-second}
 
 -- n stands before each later one
 pub IsBeforeAll-at : (n : Neighbour) (ns : List Neighbour) (k : ℕ) (d : Neighbour) → IsBeforeAll n ns → k < length ns → is_before n (get_or ns k d).end (get_or ns k d).weight ≡ true
@@ -108,8 +108,37 @@ copies_of-some (n ∷ ns) e w h found =
       | inr u ↦ (let found' : is_of n e w ≡ true = rw u at found in let some = h.0 in rw found' (omega arith))
     ]
 
-pub has-iff : (ns : List Neighbour) (e w : ℕ) → IsAscending ns → (has ns e w ≡ true) ↔ (1 ≤ copies_of ns e w)
-has-iff ns e w h = (
-  copies_of-some ns e w h,
-  λ some. elim (cases_Bool (has ns e w)) [ inl t ↦ t | inr u ↦ (let none = copies_of-missing ns e w h u in absurd (omega arith)) ],
-)
+pub has-none : (ns : List Neighbour) (e w : ℕ) → IsAscending ns → copies_of ns e w ≡ 0 → has ns e w ≡ false
+has-none ns e w h none =
+    elim (cases_Bool (has ns e w)) [ inl t ↦ (let some = copies_of-some ns e w h t in absurd (omega arith)) | inr u ↦ u ]
+
+pub place_of-lt : (ns : List Neighbour) (e w : ℕ) → has ns e w ≡ true → place_of ns e w < length ns
+place_of-lt ns e w found =
+    elim (cases_lt (place_of ns e w) (length ns)) [ inl lt ↦ lt | inr past ↦ absurd (both_ways (has ns e w) (has-past ns e w past) found) ]
+
+-- an item that stands before (e, w) is one of those at the front
+pub before-place : (ns : List Neighbour) (e w k : ℕ) (d : Neighbour) → IsAscending ns → k < length ns → is_before (get_or ns k d) e w ≡ true → k < place_of ns e w
+before-place [] e w k d h l t = absurd (omega arith)
+before-place (n ∷ ns) e w zero d h l t = rw t (omega arith)
+before-place (n ∷ ns) e w (suc k) d h l t =
+    let first : is_before n e w ≡ true = below-trans n.end n.weight (get_or ns k d).end (get_or ns k d).weight e w (IsBeforeAll-at n ns k d h.1 (omega arith)) t in
+    let rest = before-place ns e w k d h.2 (omega arith) t in
+    rw first (omega (arith, rest))
+
+-- an item that is that of (e, w) stands at its place
+pub of-place : (ns : List Neighbour) (e w k : ℕ) (d : Neighbour) → IsAscending ns → k < length ns → is_of (get_or ns k d) e w ≡ true → (k ≡ place_of ns e w) × (has ns e w ≡ true)
+of-place [] e w k d h l s = absurd (omega arith)
+of-place (n ∷ ns) e w zero d h l s = let past = below-not_same n.end n.weight e w s in rw past (refl, s)
+of-place (n ∷ ns) e w (suc k) d h l s =
+    let first : is_before n e w ≡ true = rw (← same-first (get_or ns k d).end (get_or ns k d).weight e w s, ← same-second (get_or ns k d).end (get_or ns k d).weight e w s)
+    (IsBeforeAll-at n ns k d h.1 (omega arith)) in
+    let rest = of-place ns e w k d h.2 (omega arith) s in
+    rw first (ap suc rest.0, rest.1)
+
+-- where the last item stands before (e, w), all do
+pub last-place : (ns : List Neighbour) (e w : ℕ) (d : Neighbour) → IsAscending ns → 0 < length ns → is_before (get_or ns (length ns - 1) d) e w ≡ true
+    → (length ns ≡ place_of ns e w) × (has ns e w ≡ false)
+last-place ns e w d h some t =
+    let past = before-place ns e w (length ns - 1) d h (omega arith) t in
+    let le = place_of-le ns e w in
+    (omega arith, has-past ns e w (omega arith))

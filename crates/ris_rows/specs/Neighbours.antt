@@ -1,5 +1,5 @@
 -- Counted, ascending lists of neighbours: what the contracts of a row say, and at the end what those of its search say.
-use Rattle.std.specs.Prelude.{ℕ, suc, ◌+◌, ◌-◌, ◌≤◌, Bool, false, ◌&&◌, ◌||◌, ◌==◌, nat_lt, nat_le, if◌then◌else◌, List, [], ◌∷◌, IsTrue}
+use Rattle.std.specs.Prelude.{◌≡◌, ℕ, suc, ◌+◌, ◌≤◌, Bool, true, false, ◌&&◌, ◌||◌, ◌==◌, nat_lt, if◌then◌else◌, List, [], ◌∷◌, ◌++◌, IsTrue, Result, MatchResult}
 use Rattle.ris_rows.specs.declared.neighbours.Neighbour.{Neighbour}
 
 -- the neighbour stands before those of the end e and the weight w: its end is lower, or it is e and its weight is lower
@@ -25,22 +25,14 @@ abbrev pub copies_of : List Neighbour → ℕ → ℕ → ℕ
 copies_of [] e w = 0
 copies_of (n ∷ ns) e w = (if is_of n e w then n.copies else 0) + copies_of ns e w
 
--- the neighbour with another number of copies
-abbrev pub with_copies : Neighbour → ℕ → Neighbour
-with_copies n k = record { end = n.end; weight = n.weight; copies = k }
+-- k copies of (e, w), as a list of one neighbour, or of none where k is 0
+abbrev pub listed : ℕ → ℕ → ℕ → List Neighbour
+listed e w k = if k == 0 then [] else record { end = e; weight = w; copies = k } ∷ []
 
--- the list with one copy of (e, w) more: in its place in the order, where there was none
-abbrev pub added : List Neighbour → ℕ → ℕ → List Neighbour
-added [] e w = record { end = e; weight = w; copies = 1 } ∷ []
-added (n ∷ ns) e w =
-    if is_before n e w then n ∷ added ns e w
-    else (if is_of n e w then with_copies n (n.copies + 1) ∷ ns else record { end = e; weight = w; copies = 1 } ∷ (n ∷ ns))
-
--- the list with one copy of (e, w) fewer, and without the neighbour that has none left
-abbrev pub taken : List Neighbour → ℕ → ℕ → List Neighbour
-taken [] e w = []
-taken (n ∷ ns) e w =
-    if is_of n e w then (if nat_le n.copies 1 then ns else with_copies n (n.copies - 1) ∷ ns) else n ∷ taken ns e w
+-- the list with exactly k copies of (e, w), in their place in the order, and with all others as they were
+abbrev pub counted : List Neighbour → ℕ → ℕ → ℕ → List Neighbour
+counted [] e w k = listed e w k
+counted (n ∷ ns) e w k = if is_before n e w then n ∷ counted ns e w k else listed e w k ++ (if is_of n e w then ns else n ∷ ns)
 
 -- the numbers of a neighbour, as a cursor hands them out
 abbrev pub handed : Neighbour → ℕ × ℕ × ℕ
@@ -55,3 +47,8 @@ place_of (n ∷ ns) e w = if is_before n e w then suc (place_of ns e w) else 0
 abbrev pub has : List Neighbour → ℕ → ℕ → Bool
 has [] e w = false
 has (n ∷ ns) e w = if is_before n e w then has ns e w else is_of n e w
+
+-- the outcome of a search is the place of (e, w): where it stands, or where it would go
+abbrev pub IsFound : List Neighbour → ℕ → ℕ → Result ℕ ℕ → Type 0
+IsFound ns e w found =
+    MatchResult found (λ k. (k ≡ place_of ns e w) × (has ns e w ≡ true)) (λ k. (k ≡ place_of ns e w) × (has ns e w ≡ false))

@@ -1,11 +1,10 @@
-ghost use Rattle.std.specs.Prelude.{◌≡◌, ◌+◌, ◌-◌, ◌^◌, min, drop, slice_get, if◌then◌else◌, is_some};
+ghost use Rattle.std.specs.Prelude.{◌≡◌, [], ◌+◌, ◌-◌, ◌^◌, min, drop, slice_get, if◌then◌else◌, is_some};
 ghost use Rattle.std.specs.Option.{option_map};
 
 use crate::neighbours::Neighbour;
 use ris_base::Meter;
-use std::collections::VecDeque;
-use std::collections::vec_deque::Iter;
 use std::marker::{Model, PhantomData};
+use std::slice::Iter;
 
 /// Hands out the neighbours of a row, in order. Contracts see it as the list of the neighbours that are left.
 #[derive(Drop)]
@@ -16,18 +15,25 @@ pub struct Cursor<'a, M> {
 
 impl<'a, M> Model for Cursor<'a, M> {
     ghost use Rattle.std.specs.Prelude.{List};
-    ghost use Rattle.std.specs.VecDeque.Iter.{deque_iter_rest};
+    ghost use Rattle.std.specs.Slice.Iter.{iter_rest};
     ghost use Rattle.ris_rows.specs.declared.neighbours.Neighbour.{Neighbour};
 
     ghost Value = { List Neighbour };
 
-    ghost view = { λ c. deque_iter_rest c.rest };
+    ghost view = { λ c. iter_rest c.rest };
 }
 
 impl<'a, M> Cursor<'a, M> {
+    /// A cursor that has nothing to hand out.
+    pub fn empty() -> Cursor<'a, M>
+        ensures { result ≡ [] }
+    {
+        Cursor::over(&[])
+    }
+
     /// A cursor before the first of the items.
-    pub(crate) fn over(items: &'a VecDeque<Neighbour>) -> Cursor<'a, M>
-        ensures { result ≡ items.now.items }
+    pub(crate) fn over(items: &'a [Neighbour]) -> Cursor<'a, M>
+        ensures { result ≡ items.now }
     {
         Cursor {
             rest: items.iter(),

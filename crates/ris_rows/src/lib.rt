@@ -10,4 +10,5 @@ mod rows;
 mod tests;
 
 pub use cursors::Cursor;
+pub use neighbours::Neighbour;
 pub use rows::Row;

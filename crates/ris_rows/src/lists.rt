@@ -1,26 +1,22 @@
-ghost use Rattle.std.specs.Prelude.{◌≡◌, ◌+◌, ◌-◌, ◌^◌, ◌<◌, ◌≤◌, true, false, MatchResult};
-ghost use Rattle.std.specs.VecDeque.{deque_len, deque_capacity};
-ghost use Rattle.ris_rows.specs.Neighbours.{IsAscending, place_of, has, copies_of, added, taken};
+ghost use Rattle.std.specs.Prelude.{◌≡◌, ◌<◌, ◌≤◌, false, length, vec_len, vec_capacity};
+ghost use Rattle.ris_rows.specs.Neighbours.{IsAscending, IsFound, place_of, has, copies_of, counted};
 
 use crate::neighbours::Neighbour;
-use std::collections::VecDeque;
 
 /// The number of neighbours that stand before (end, weight), by binary search.
-fn place(items: &VecDeque<Neighbour>, end: u32, weight: u64) -> usize
-    requires { IsAscending items.now.items }
-    ensures value { result ≡ place_of items.now.items end weight }
-    ensures bound { result ≤ deque_len items.now }
+fn place(items: &[Neighbour], end: u32, weight: u64) -> usize
+    requires { IsAscending items.now }
+    ensures value { result ≡ place_of items.now end weight }
+    ensures bound { result ≤ length items.now }
 {
     items.partition_point(|item| item.is_before(end, weight))
 }
 
-/// The place of the neighbour (end, weight): `Ok` where it stands in the list, and `Err` of the place where it would
-/// go.
-fn find(items: &VecDeque<Neighbour>, end: u32, weight: u64) -> Result<usize, usize>
-    requires { IsAscending items.now.items }
-    ensures place { MatchResult result (λ k. k ≡ place_of items.now.items end weight) (λ k. k ≡ place_of items.now.items end weight) }
-    ensures bound { MatchResult result (λ k. k < deque_len items.now) (λ k. k ≤ deque_len items.now) }
-    ensures found { MatchResult result (λ _. has items.now.items end weight ≡ true) (λ _. has items.now.items end weight ≡ false) }
+/// The place of the neighbour (end, weight), by binary search: `Ok` where it stands in the list, and `Err` of the place
+/// where it would go.
+pub fn find(items: &[Neighbour], end: u32, weight: u64) -> Result<usize, usize>
+    requires { IsAscending items.now }
+    ensures { IsFound items.now end weight result }
 {
     let place = place(items, end, weight);
     match items.get(place) {
@@ -29,53 +25,59 @@ fn find(items: &VecDeque<Neighbour>, end: u32, weight: u64) -> Result<usize, usi
     }
 }
 
-/// The number of copies of the neighbour (end, weight).
-pub fn count(items: &VecDeque<Neighbour>, end: u32, weight: u64) -> u64
-    requires { IsAscending items.now.items }
-    ensures { result ≡ copies_of items.now.items end weight }
+/// The place of the neighbour (end, weight), as `find` has it. It looks at the last neighbour first, and searches only
+/// where that one stands past (end, weight).
+pub fn find_from_end(items: &[Neighbour], end: u32, weight: u64) -> Result<usize, usize>
+    requires { IsAscending items.now }
+    ensures { IsFound items.now end weight result }
 {
-    match find(items, end, weight) {
+    match items.last() {
+        Some(last) if last.is_of(end, weight) => Ok(items.len() - 1),
+        Some(last) if !last.is_before(end, weight) => find(items, end, weight),
+        _ => Err(items.len()),
+    }
+}
+
+/// The number of copies of the neighbour (end, weight), which was looked for.
+pub fn copies_at(items: &[Neighbour], found: Result<usize, usize>, end: u32, weight: u64) -> u64
+    requires ascending { IsAscending items.now }
+    requires found { IsFound items.now end weight found }
+    ensures { result ≡ copies_of items.now end weight }
+{
+    match found {
         Ok(place) => items[place].copies,
         Err(_) => 0,
     }
 }
 
-/// One copy more of the neighbour (end, weight).
-pub fn add(items: &mut VecDeque<Neighbour>, end: u32, weight: u64)
-    requires ascending { IsAscending items.old.items }
-    requires room { deque_len items.old < deque_capacity items.old }
-    requires few { copies_of items.old.items end weight < 2 ^ 64 - 1 }
-    ensures items { items.new.items ≡ added items.old.items end weight }
-    ensures room { deque_capacity items.old - deque_len items.old ≤ deque_capacity items.new - deque_len items.new + 1 }
+/// Sets the number of copies of the neighbour (end, weight), which was looked for. Where it is new, there is room for it.
+pub fn write(
+    items: &mut Vec<Neighbour>,
+    found: Result<usize, usize>,
+    end: u32,
+    weight: u64,
+    copies: u64,
+)
+    requires found { IsFound items.old.items end weight found }
+    requires room { has items.old.items end weight ≡ false → 1 ≤ copies → vec_len items.old < vec_capacity items.old }
+    ensures items { items.new.items ≡ counted items.old.items end weight copies }
+    ensures capacity { vec_capacity items.new ≡ vec_capacity items.old }
 {
-    match find(items, end, weight) {
-        Ok(place) => items[place].copies += 1,
-        Err(place) => {
-            let first = Neighbour {
-                end,
-                weight,
-                copies: 1,
-            };
-            let _ = items.insert(place, first);
+    match found {
+        Ok(place) if copies > 0 => items[place].copies = copies,
+        Ok(place) => {
+            let _ = items.remove(place);
         }
+        Err(place) if copies > 0 => {
+            let _ = items.insert(
+                place,
+                Neighbour {
+                    end,
+                    weight,
+                    copies,
+                },
+            );
+        }
+        Err(_) => {}
     }
-}
-
-/// One copy fewer of the neighbour (end, weight), where there is one. Whether there was one.
-pub fn take(items: &mut VecDeque<Neighbour>, end: u32, weight: u64) -> bool
-    requires { IsAscending items.old.items }
-    ensures found { result ≡ has items.old.items end weight }
-    ensures items { items.new.items ≡ taken items.old.items end weight }
-    ensures room { deque_capacity items.old - deque_len items.old ≤ deque_capacity items.new - deque_len items.new }
-{
-    let Ok(place) = find(items, end, weight) else {
-        return false;
-    };
-    let copies = items[place].copies;
-    if copies > 1 {
-        items[place].copies -= 1;
-    } else {
-        let _ = items.remove(place);
-    }
-    true
 }

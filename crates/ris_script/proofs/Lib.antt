@@ -1,6 +1,9 @@
-mod FieldLemmas
-mod FormLemmas
+pub mod ByteLemmas
+pub mod FieldLemmas
+pub mod HeaderLemmas
 mod LeftLemmas
-mod ResultLemmas
-mod ScriptLemmas
-pub mod ShapeLemmas
+pub mod ProgressLemmas
+mod ReadLemmas
+pub mod SayingLemmas
+pub mod StandingLemmas
+pub mod WordLemmas

@@ -3,6 +3,8 @@ use Rattle.std.specs.Prelude.{◌≡◌, ℕ, List, ⊤, Result, Ok, Err}
 use Rattle.csv.specs.Reading.{default_config, records, strip_bom}
 use Rattle.ris_base.specs.Script.{Fault, script_of_records}
 use Rattle.ris_base.specs.declared.scripts.Script.{Script}
+use Rattle.ris_script.specs.declared.faults.RecordError.{RecordError}
+use Rattle.ris_script.specs.declared.faults.RecordError.TheVariants as why
 use Rattle.ris_script.specs.declared.faults.ScriptError.{ScriptError}
 use Rattle.ris_script.specs.declared.faults.ScriptError.TheVariants as error
 
@@ -16,3 +18,8 @@ abbrev pub Reads : {T : Type 0} → Result T ScriptError → Result T Fault → 
 Reads (Ok value) expected = expected ≡ Ok value
 Reads (Err (error.Fault number cause)) expected = expected ≡ Err (record { number = number; cause = cause })
 Reads (Err error.NoMemory) expected = ⊤
+
+-- the error of a record with this number
+abbrev pub error_at : ℕ → RecordError → ScriptError
+error_at number (why.Fault cause) = error.Fault number cause
+error_at number why.NoMemory = error.NoMemory

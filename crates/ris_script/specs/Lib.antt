@@ -1,3 +1,6 @@
 pub mod Bytes
+pub mod Headers
 pub mod Left
-pub mod Shape
+pub mod Progress
+pub mod Sayings
+pub mod Standing

@@ -2,12 +2,15 @@
 //! `script_of` of specs/Bytes.antt.
 #![tactic(auto)]
 
+mod built;
+mod drafts;
 mod faults;
-mod forms;
+mod headers;
 mod rows;
+mod sayings;
 mod scripts;
-#[cfg(test)]
-mod tests;
+mod sessions;
+mod words;
 
 pub use faults::ScriptError;
 pub use ris_base::{Cause, Script};

@@ -13,7 +13,7 @@ neighbour_lists-requires g c =
     let bound = c.in_ok-first.ensures.len ∙ ap number_bound vertices in
     let count : c.len.result ≡ number_bound graph.vertices = omega (arith, c.in_ok-first.first.ok) in
     subst (λ n. All (IsWithin n) c.deref-2.result.now) (sym count)
-    (subst (All (IsWithin (number_bound graph.vertices))) (sym triples) (All-IsWithin graph c.requires))
+    (subst (All (IsWithin (number_bound graph.vertices))) (sym triples) (All-IsWithin graph c.requires.proper))
 
 pub values_after-requires-clause-lists : goal.values_after-requires-clause-lists
 values_after-requires-clause-lists g c κs within =
@@ -32,7 +32,7 @@ values_after-requires-clause-neighbours g c κs within =
     set_up graph (A.start_of algo) A.BOTH_WAYS table lists c.deref.result.now c.deref-2.result.now c.BOTH_WAYS.result c.len.result c.in_ok-lists.lists.items
     (c.deref.ensures.value ∙ c.in_ok-vertices.ensures) (c.deref-2.ensures.value ∙ c.in_ok-triples.ensures) c.BOTH_WAYS.ensures
     (omega (arith, c.in_ok-first.first.ok)) c.deref-3.ensures.value c.in_ok-first.ensures.len c.in_ok-first.ensures.first c.in_ok-lists.ensures in
-    subst (λ n. AreWithin n lists) (sym set.all) (AreListed graph A.BOTH_WAYS lists c.requires set.listed)
+    subst (λ n. AreWithin n lists) (sym set.all) (AreListed graph A.BOTH_WAYS lists c.requires.proper set.listed)
 
 pub values_after-requires-clause-values : goal.values_after-requires-clause-values
 values_after-requires-clause-values g c κs within =
@@ -49,8 +49,8 @@ values_after-requires-clause-values g c κs within =
     let rounds = c.saturating_sub-rounds.ensures in
     let number = c.len-2.ensures in
     let same = ap length c.in_ok-vertices.ensures in
-    λ k lt. rounds_small graph (A.spec algo) (A.start_of algo) (A.step_of algo) (A.better_of algo) A.BOTH_WAYS table lists
-    c.requires (met.laws algo) (met.meaning algo) set k (omega arith)
+    λ k lt. rounds_small graph (A.spec algo) (A.suits algo) (A.start_of algo) (A.step_of algo) (A.better_of algo) A.BOTH_WAYS table lists
+    c.requires.proper (met.laws algo) (met.meaning algo) c.requires.format set k (omega arith)
 
 pub returns : goal.returns
 returns g c =
@@ -67,6 +67,6 @@ returns g c =
     let rounds = c.saturating_sub-rounds.ensures in
     let number = c.len-2.ensures in
     let same = ap length c.in_ok-vertices.ensures in
-    let are = rounds_are graph (A.spec algo) (A.start_of algo) (A.step_of algo) (A.better_of algo) A.BOTH_WAYS table lists
-    c.requires (met.laws algo) (met.meaning algo) set c.saturating_sub-rounds.result (omega arith) in
+    let are = rounds_are graph (A.spec algo) (A.suits algo) (A.start_of algo) (A.step_of algo) (A.better_of algo) A.BOTH_WAYS table lists
+    c.requires.proper (met.laws algo) (met.meaning algo) c.requires.format set c.saturating_sub-rounds.result (omega arith) in
     subst (AreValues graph (A.spec algo)) (sym (c.from_vec.ensures ∙ c.in_ok-values.ensures)) are

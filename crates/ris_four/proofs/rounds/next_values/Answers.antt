@@ -14,7 +14,7 @@ collect-requires-clause-ready g c κs within =
     let n = length c.args.values.now in
     let inside = nat_range-All (λ i. (i < n) × ((i < length c.args.lists.now) × (All (IsBelow (2 ^ 59)) c.args.values.now × AreWithin n c.args.lists.now))) 0 n
     (λ i low high. (high, (omega arith, (c.requires.values, c.requires.neighbours)))) in
-    rw (c.map.ensures.base, c.map.ensures.f, ends.0, ends.1) (λ k d lt. (inside k d lt, λ y p. tt))
+    rw (c.map.ensures.base, c.map.ensures.f, c.with_min_len.ensures.base, ends.0, ends.1) (λ k d lt. (inside k d lt, λ y p. tt))
 
 pub returns : goal.returns
 returns g c =
@@ -23,6 +23,6 @@ returns g c =
     let whole : n - 0 ≡ n = omega arith in
     let next = next_value (g.A.Monotone.step_of c.args.algo.now) (g.A.Monotone.better_of c.args.algo.now) c.args.lists.now c.args.values.now in
     let h = c.in_ok-next.ensures in
-    let chain = rw (c.map.ensures.base, c.map.ensures.f) at h.1 in
+    let chain = rw (c.map.ensures.base, c.map.ensures.f, c.with_min_len.ensures.base) at h.1 in
     let places = chain.1 ∙ (λ i. nat_range (ends.0 i) (ends.1 i)) ∙ ap (range_with_len 0) whole in
     h.2 ∙ AllZip-map next chain.0 h.0 chain.2 ∙ ap (map next) places

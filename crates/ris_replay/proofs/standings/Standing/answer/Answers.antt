@@ -1,21 +1,15 @@
-use Rattle.std.proofs.Common.{◌≡◌, Some, sym, ap, ◌∙◌}
-use Rattle.std.specs.List.{slice_get}
-use Rattle.ris_replay.proofs.VertexFacts.{proper, some-and, value-right}
+use Rattle.std.proofs.Common.{sym, subst, refl}
+use Rattle.ris_base.specs.declared.commands.Command.{Command}
+use Rattle.ris_replay.specs.Standing.{Answers}
+use Rattle.ris_replay.specs.declared.standings.Standing.{Standing}
+use Rattle.ris_replay.proofs.AnswerFacts.{on-ok, read-answered}
 use Rattle.ris_replay.proofs.standings.Standing.answer.Goals as goal
 
-pub plain_values-requires-after_bounds : goal.plain_values-requires-after_bounds
-plain_values-requires-after_bounds g c = λ κs h.
-    let r = c.requires.ready in proper c.args.self.now.graph _ r.vertices r.few r.triples
-
-pub returns-clause-right : goal.returns-clause-right
-returns-clause-right g c =
-    let r = c.requires.ready in
-    let values = c.in_ok-values.ensures {u = tt} in
-    let spec : slice_get c.args.specs.now c.args.analysis ≡ Some c.at-spec.result.now = ap (slice_get c.args.specs.now) (sym c.from.ensures) ∙ c.at-spec.ensures in
-    record {
-      front_is = c.len-place.ensures ∙ sym r.entries;
-      place_is = c.len-place.ensures ∙ sym r.entries;
-      asked = r.entries ∙ sym c.len-place.ensures;
-      right = some-and _ _ _ spec
-          (value-right c.args.self.now.graph c.at-spec.result.now c.in_ok-values.values c.args.x c.value_at.result values c.value_at.ensures.value);
-    }
+-- src/standings.rt:28:5
+pub returns-in_ok-reply-in-Value-clause-answered : goal.returns-in_ok-reply-in-Value-clause-answered
+returns-in_ok-reply-in-Value-clause-answered g c =
+    let t : Standing = record { opening = c.args.self.now.opening; graph = c.args.self.now.graph; lines = c.args.self.now.lines; log = c.push.new.self } in
+    on-ok c.push.result (λ log. subst (λ (asked : Command). Answers c.args.specs.now asked c.args.self.now t) (sym c.in-Value.is)
+    (read-answered c.args.specs.now c.args.self.now t c.in-Value.version c.in-Value.analysis c.in-Value.x c.in_ok-reply-in-Value.reply c.requires.ready refl refl
+    (c.in_ok-reply-in-Value.ensures {u = tt}) log))
+    c.push.ensures.ok

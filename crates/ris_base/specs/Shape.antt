@@ -1,0 +1,43 @@
+-- What every script that was read keeps, of which the crates above it speak.
+use Rattle.std.specs.Prelude.{◌≡◌, ℕ, ◌<◌, ◌≤◌, List, [], ◌∷◌, length, ⊤}
+use Rattle.std.specs.List.{All}
+use Rattle.ris_base.specs.Graph.{IsProper}
+use Rattle.ris_base.specs.Limits.{vertex_limit}
+use Rattle.ris_base.specs.Script.{opening_of, sessions_built}
+use Rattle.ris_base.specs.declared.commands.Command.{Command}
+use Rattle.ris_base.specs.declared.commands.Command.TheVariants.{Change, Release, Leave, Value, Parent, Path, Modified, Current}
+use Rattle.ris_base.specs.declared.scripts.Script.{Script}
+
+-- a command for a run with so many analyses: a change has 1 to 1,024 parts, and a read names one of the analyses
+abbrev pub IsAskable : ℕ → Command → Type 0
+IsAskable analyses (Change parts) = (1 ≤ length parts) × (length parts ≤ 1024)
+IsAskable analyses (Release v) = ⊤
+IsAskable analyses Leave = ⊤
+IsAskable analyses (Value version a x) = a < analyses
+IsAskable analyses (Parent version a x) = a < analyses
+IsAskable analyses (Path version a x) = a < analyses
+IsAskable analyses (Modified version a) = a < analyses
+IsAskable analyses Current = ⊤
+
+-- no command stands behind a leave
+abbrev pub EndsByLeave : List Command → Type 0
+EndsByLeave [] = ⊤
+EndsByLeave (Leave ∷ commands) = commands ≡ []
+EndsByLeave (command ∷ commands) = EndsByLeave commands
+
+-- a script that was read for a run with so many analyses
+pub record IsReadable (analyses : ℕ) (script : Script) : Type 0 where
+  -- it has at most 4,194,304 vertices
+  pub vertices : script.vertices ≤ vertex_limit
+  -- it has a session
+  pub some : 1 ≤ script.sessions
+  -- it has no more sessions than are built
+  pub few : script.sessions ≤ sessions_built
+  -- each session has its list of commands
+  pub lists : length script.commands ≡ script.sessions
+  -- its graph of place 0 is proper
+  pub opening : IsProper (opening_of script)
+  -- each command is one for a run with so many analyses
+  pub askable : All (All (IsAskable analyses)) script.commands
+  -- a leave is the last command of its session
+  pub leaving : All EndsByLeave script.commands

@@ -1,0 +1,15 @@
+pub mod Accounts
+pub mod Books
+pub mod Cells
+pub mod CellSteps
+pub mod EachOnce
+pub mod Judged
+pub mod Legality
+pub mod Lists
+pub mod OutsideSteps
+pub mod ReadSteps
+pub mod ReadsOf
+pub mod Sealing
+pub mod Steps
+pub mod Telling
+pub mod Turns
