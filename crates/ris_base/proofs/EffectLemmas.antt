@@ -181,7 +181,7 @@ count_by-push : (t s : Triple) (ts : List Triple) → count_by (is_equal t) (ts 
 count_by-push t s ts = sum_by_push (λ r. one_if (is_equal t r)) ts s
 
 -- a list without the first copy of e
-count_by-without : (t e : Triple) (ts : List Triple) → count_by (is_equal t) (without_first e ts) ≡ count_by (is_equal t) ts - one_if (is_equal t e)
+pub count_by-without : (t e : Triple) (ts : List Triple) → count_by (is_equal t) (without_first e ts) ≡ count_by (is_equal t) ts - one_if (is_equal t e)
 count_by-without t e [] = omega arith
 count_by-without t e (s ∷ rest) = go (is_equal e s) refl (count_by-without t e rest)
   where

@@ -1,4 +1,5 @@
 mod Examples
+pub mod CopyLemmas
 pub mod EffectLemmas
 pub mod FloorLemmas
 pub mod LineLemmas

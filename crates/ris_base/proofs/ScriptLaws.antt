@@ -12,7 +12,7 @@ use Rattle.ris_base.specs.Limits.{greatest_of, vertex_limit}
 use Rattle.ris_base.specs.Lists.{numbers_below}
 use Rattle.ris_base.specs.Number.{number_of}
 use Rattle.ris_base.specs.Script.{Addv, Delv, Adde, Dele, Setw, Begin, Commit, Value, Parent, Path, Modified, Current, Release, Leave, Asks, Closes, Fault, Fields, Header, Opens, Part, Saying, Word, analysis_asked, at_most, base_by, base_of, commands_behind, commands_of, fault_at_end, first_fault, format_of, header_of, is_leave, newest_first, numbers_of, open_parts, opening_of, reading_by, said, said_by, saying_by, saying_of, sayings, script_behind, script_of_records, script_or_fault, sessions_built, sessions_within, takes_version, transaction_cause, version_of, word_said}
-use Rattle.ris_base.specs.Shape.{EndsByLeave, IsAskable, IsReadable}
+use Rattle.ris_base.specs.Shape.{EndsByLeave, IsCommandFor, IsReadable}
 use Rattle.ris_base.specs.declared.commands.Command.{Command}
 use Rattle.ris_base.specs.declared.commands.Command.TheVariants as command
 use Rattle.ris_base.specs.declared.commands.Version.{Version}
@@ -137,7 +137,7 @@ EndsByLeave-append (command.Current ∷ xs) ys h k = EndsByLeave-append xs ys h 
 -- what the sayings of a session keep, the newest first
 record Keeps (analyses : ℕ) (sayings : List Saying) : Type 0 where
   few : IfSome (open_parts sayings) (λ parts. length parts ≤ 1024)
-  askable : All (IsAskable analyses) (commands_behind None (reverse sayings))
+  askable : All (IsCommandFor analyses) (commands_behind None (reverse sayings))
   staying : list_any is_leave sayings ≡ false → NoLeave (commands_behind None (reverse sayings))
   leaving : EndsByLeave (commands_behind None (reverse sayings))
 
@@ -158,13 +158,13 @@ open_parts-cons (Asks asked) sayings = refl
 -- what one saying makes of open parts
 record Makes (analyses : ℕ) (open_ : Option (List Update)) (saying : Saying) : Type 0 where
   few : IfSome (opened open_ saying) (λ parts. length parts ≤ 1024)
-  askable : All (IsAskable analyses) (commands_behind open_ (saying ∷ []))
+  askable : All (IsCommandFor analyses) (commands_behind open_ (saying ∷ []))
   staying : is_leave saying ≡ false → NoLeave (commands_behind open_ (saying ∷ []))
   leaving : EndsByLeave (commands_behind open_ (saying ∷ []))
 
 -- a single command
-one-askable : (analyses : ℕ) (one : Command) → IsAskable analyses one → All (IsAskable analyses) (one ∷ [])
-one-askable analyses one h = All-cons (IsAskable analyses) one [] h (All-nil (IsAskable analyses))
+one-askable : (analyses : ℕ) (one : Command) → IsCommandFor analyses one → All (IsCommandFor analyses) (one ∷ [])
+one-askable analyses one h = All-cons (IsCommandFor analyses) one [] h (All-nil (IsCommandFor analyses))
 
 -- the analysis that a saying names is one
 analysis-below : (a analyses : ℕ) (rest : Option Cause)
@@ -189,7 +189,7 @@ makes-change analyses open_ saying parts made some few after =
 makes-nothing : (analyses : ℕ) (open_ : Option (List Update)) (saying : Saying)
     → commands_behind open_ (saying ∷ []) ≡ [] → IfSome (opened open_ saying) (λ (t : List Update). length t ≤ 1024) → Makes analyses open_ saying
 makes-nothing analyses open_ saying made after =
-    record { few = after; askable = rw made (All-nil (IsAskable analyses)); staying = λ e. rw made tt; leaving = rw made tt }
+    record { few = after; askable = rw made (All-nil (IsCommandFor analyses)); staying = λ e. rw made tt; leaving = rw made tt }
 
 makes-asked : (analyses : ℕ) (asked : Command) → IsAsked (Asks asked)
     → option_or (option_and_then (λ (a : ℕ). if nat_lt a analyses then None else Some cause.Analysis) (analysis_asked (Asks asked))) None ≡ None
@@ -239,7 +239,7 @@ keeps-more analyses saying sayings kept stays made =
     let more = commands_behind (open_parts sayings) (saying ∷ []) in
     record {
       few = rw (open_parts-cons saying sayings) made.few;
-      askable = rw push (All-append (IsAskable analyses) front more kept.askable made.askable);
+      askable = rw push (All-append (IsCommandFor analyses) front more kept.askable made.askable);
       staying = λ e. rw push (NoLeave-append front more (kept.staying stays) (made.staying (first e)));
       leaving = rw push (EndsByLeave-append front more (kept.staying stays) made.leaving);
     }
@@ -254,7 +254,7 @@ keeps-more analyses saying sayings kept stays made =
 -- records none of which is a fault
 taken-keeps : (h : Header) (analyses : ℕ) (before : List Fields) (s : ℕ) → AreTaken h analyses before → Keeps analyses (sayings h s before)
 unfolding commands_behind open_parts
-taken-keeps h analyses [] s taken = record { few = tt; askable = All-nil (IsAskable analyses); staying = λ e. tt; leaving = tt }
+taken-keeps h analyses [] s taken = record { few = tt; askable = All-nil (IsCommandFor analyses); staying = λ e. tt; leaving = tt }
 taken-keeps h analyses (fields ∷ before) s (none, taken) = by (said_by h s fields) refl (taken-keeps h analyses before s taken)
   where
     by : (o : Option Saying) → said_by h s fields ≡ o → Keeps analyses (sayings h s before) → Keeps analyses (cons_option o (sayings h s before))
@@ -373,8 +373,8 @@ behind-readable h analyses records within taken =
         vertices = λ k d lt. let below = All-numbers_below h.vertices k d lt in omega (arith, below, within.vertices);
         triples = base-proper h records (opening_of (script_behind h records)) refl refl;
       };
-      askable = All-map (All (IsAskable analyses)) (commands_of h records) (numbers_below h.sessions)
-          (λ k d lt. subst (All (IsAskable analyses)) (commands_of-newest_first h records _) (kept _).askable);
+      askable = All-map (All (IsCommandFor analyses)) (commands_of h records) (numbers_below h.sessions)
+          (λ k d lt. subst (All (IsCommandFor analyses)) (commands_of-newest_first h records _) (kept _).askable);
       leaving = All-map EndsByLeave (commands_of h records) (numbers_below h.sessions)
           (λ k d lt. subst EndsByLeave (commands_of-newest_first h records _) (kept _).leaving);
     }

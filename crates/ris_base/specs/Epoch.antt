@@ -6,7 +6,7 @@ use Rattle.ris_base.specs.Forest.{Forest}
 use Rattle.ris_base.specs.Graph.{EachOnce}
 use Rattle.ris_base.specs.Lines.{front, entry_at}
 use Rattle.ris_base.specs.Lists.{EachPair, numbers_below}
-use Rattle.ris_base.specs.Machine.{Seat, State, Step, Run, InBatch, InTail, Collect, empty_seat, session_by, asked_by}
+use Rattle.ris_base.specs.Machine.{Seat, State, Step, Run, InBatch, InTail, Collect, empty_seat, session_by, asked_by, is_candidate_now, next_of}
 use Rattle.ris_base.specs.Machine.Step.{Begin, Cell, Seal, Serial, Mark, Leave, Want}
 use Rattle.ris_base.specs.Records.{lines_of, forests_at, setup_for}
 use Rattle.ris_base.specs.Requests.{after}
@@ -78,7 +78,7 @@ pub record IsSaid (s : State) (o : Resolved) : Type 0 where
   pub replies : (s.book.seats o.session).replies ≡ record { reply = Reply o.outcome; knew = knew } ∷ []
 
 -- Records and a batch go to more records with these outcomes by one turn, in which the candidates of the sessions `held` go to the
--- tail: some requests are answered by want of memory; the turn begins; cells decide the candidates; their logs are merged; and
+-- tail: some candidates are answered by want of memory; the turn begins; cells decide the others; their logs are merged; and
 -- the tail is handled one by one until nothing is left of it. Each request of the batch has one outcome
 pub record IsHeldEpoch (ground : Ground) (records : List Record) (batch : List Request) (held : List ℕ) (more : List Record)
     (outcomes : List Resolved) : Type 0 where
@@ -88,6 +88,7 @@ pub record IsHeldEpoch (ground : Ground) (records : List Record) (batch : List R
   pub tail : List Step
   pub sealed : State
   pub final : State
+  pub are_candidates : All (λ s. is_candidate_now (turn_of ground records batch) (next_of (batch_seat batch s)) ≡ true) wanting
   pub are_cells : All (λ step. is_cell step ≡ true) cells
   pub are_of_tail : All (λ step. is_of_tail step ≡ true) tail
   pub to_sealed : Run (turn_of ground records batch) (map Want wanting ++ Begin held ∷ cells ++ Seal order ∷ []) sealed

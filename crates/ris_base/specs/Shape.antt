@@ -9,15 +9,15 @@ use Rattle.ris_base.specs.declared.commands.Command.TheVariants.{Change, Release
 use Rattle.ris_base.specs.declared.scripts.Script.{Script}
 
 -- a command for a run with so many analyses: a change has 1 to 1,024 parts, and a read names one of the analyses
-abbrev pub IsAskable : ℕ → Command → Type 0
-IsAskable analyses (Change parts) = (1 ≤ length parts) × (length parts ≤ 1024)
-IsAskable analyses (Release v) = ⊤
-IsAskable analyses Leave = ⊤
-IsAskable analyses (Value version a x) = a < analyses
-IsAskable analyses (Parent version a x) = a < analyses
-IsAskable analyses (Path version a x) = a < analyses
-IsAskable analyses (Modified version a) = a < analyses
-IsAskable analyses Current = ⊤
+abbrev pub IsCommandFor : ℕ → Command → Type 0
+IsCommandFor analyses (Change parts) = (1 ≤ length parts) × (length parts ≤ 1024)
+IsCommandFor analyses (Release v) = ⊤
+IsCommandFor analyses Leave = ⊤
+IsCommandFor analyses (Value version a x) = a < analyses
+IsCommandFor analyses (Parent version a x) = a < analyses
+IsCommandFor analyses (Path version a x) = a < analyses
+IsCommandFor analyses (Modified version a) = a < analyses
+IsCommandFor analyses Current = ⊤
 
 -- no command stands behind a leave
 abbrev pub EndsByLeave : List Command → Type 0
@@ -38,6 +38,6 @@ pub record IsReadable (analyses : ℕ) (script : Script) : Type 0 where
   -- its graph of place 0 is proper
   pub opening : IsProper (opening_of script)
   -- each command is one for a run with so many analyses
-  pub askable : All (All (IsAskable analyses)) script.commands
+  pub askable : All (All (IsCommandFor analyses)) script.commands
   -- a leave is the last command of its session
   pub leaving : All EndsByLeave script.commands

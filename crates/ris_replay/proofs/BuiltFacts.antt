@@ -14,7 +14,7 @@ use Rattle.ris_base.specs.declared.scripts.Cause.TheVariants as cause
 use Rattle.ris_base.specs.declared.scripts.Script.{Script}
 use Rattle.ris_base.specs.declared.updates.Update.{Update}
 use Rattle.ris_base.specs.declared.updates.Update.TheVariants.{AddV, DelV, AddE, DelE, SetW}
-use Rattle.ris_base.specs.Shape.{IsAskable, IsReadable}
+use Rattle.ris_base.specs.Shape.{IsCommandFor, IsReadable}
 use Rattle.ris_base.proofs.ScriptLaws.{script_of_records-readable}
 use Rattle.ris_script.specs.Bytes.{script_of}
 use Rattle.ris_replay.specs.Playing.{AreTaken}
@@ -162,7 +162,7 @@ by-place P [] h k d less = absurd (omega arith)
 by-place P (x ∷ xs) h zero d less = h.0
 by-place P (x ∷ xs) h (suc k) d less = by-place P xs h.1 k d (omega arith)
 
-taken-one : (analyses : ℕ) (asked : Command) → IsAskable analyses asked → IsBuilt asked → IsTaken analyses asked
+taken-one : (analyses : ℕ) (asked : Command) → IsCommandFor analyses asked → IsBuilt asked → IsTaken analyses asked
 taken-one analyses (command.Change parts) may built = tt
 taken-one analyses (command.Value version a x) may built = may
 taken-one analyses (command.Parent version a x) may built = absurd built

@@ -10,9 +10,11 @@ use Rattle.ris_words.specs.Items.{cut_at}
 abbrev pub parts_at : Bytes → ℕ → Bytes × Bytes
 parts_at bytes i = (take i bytes, drop (i + 1) bytes)
 
+-- the same two parts with one byte more in front
 abbrev behind_byte : ℕ → Bytes × Bytes → Bytes × Bytes
 behind_byte x p = (x ∷ p.0, p.1)
 
+-- one more on both sides of a test
 same_test : (n m : ℕ) → nat_lt (1 + n) (suc m) ≡ nat_lt n m
 same_test n m = rw (one-add n, suc-suc (suc n) m) refl
 
@@ -54,9 +56,11 @@ unfolding cut_at
 cut_at-first c [] behind lacks = let same : (c == c) ≡ true = grind (arith, nat_tests) in rw same refl
 cut_at-first c (x ∷ xs) behind lacks = rw (lacks.0, cut_at-first c xs behind lacks.1) refl
 
+-- what stands before the cut
 abbrev first : Option (Bytes × Bytes) → Bytes
 first cut = (unwrap_or cut ([], [])).0
 
+-- what stands behind the cut
 abbrev second : Option (Bytes × Bytes) → Bytes
 second cut = (unwrap_or cut ([], [])).1
 

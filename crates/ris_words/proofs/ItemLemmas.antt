@@ -21,6 +21,7 @@ pub within-none : (word : Bytes) → specs_within 0 word ≡ None
 unfolding specs_within
 within-none word = refl
 
+-- one item or more, by how the word is cut
 within-more : (n : ℕ) (word : Bytes) → 0 < n → specs_within n word ≡ specs_cut word (cut_at 44 word) (specs_within (n - 1))
 unfolding specs_within
 within-more zero word some = absurd (omega arith)
@@ -85,22 +86,26 @@ pub record IsNamed (word : Bytes) (specs : List Spec) (most : ℕ) : Type 0 wher
   pub some : 1 ≤ length specs
   pub few : length specs ≤ most
 
+-- lists that are paired have one length
 pairs-length : {X Y : Type 0} (R : X → Y → Type 0) (xs : List X) (ys : List Y) → EachPair R xs ys → length xs ≡ length ys
 pairs-length R [] [] pairs = refl
 pairs-length R [] (y ∷ ys) pairs = absurd pairs
 pairs-length R (x ∷ xs) [] pairs = absurd pairs
 pairs-length R (x ∷ xs) (y ∷ ys) pairs = ap suc (pairs-length R xs ys pairs.1)
 
+-- an item and a comma in front of other items
 join-more : (item : Bytes) (items : List Bytes) → 1 ≤ length items → item ++ 44 ∷ join_with_byte 44 items ≡ join_with_byte 44 (item ∷ items)
 join-more item [] some = absurd (omega arith)
 join-more item (next ∷ items) some = refl
 
+-- a word without a comma has one item
 one_named : (n : ℕ) (word : Bytes) (specs : List Spec) (first : Option Spec) → first ≡ analysis_named word → with_first first (Some []) ≡ Some specs → IsNamed word specs (suc n)
 one_named n word specs None is said = cc
 one_named n word specs (Some spec) is said =
     let same : spec ∷ [] ≡ specs = cc in
     rw (← same) (record { items = word ∷ []; joined = refl; named = (sym is, tt); some = omega arith; few = omega arith })
 
+-- a word with a comma has the items behind it, and one more
 more_named : (n : ℕ) (word item behind : Bytes) (specs : List Spec) (first : Option Spec) (rest : Option (List Spec)) → first ≡ analysis_named item
     → word ≡ item ++ 44 ∷ behind → ((others : List Spec) → rest ≡ Some others → IsNamed behind others n) → with_first first rest ≡ Some specs → IsNamed word specs (suc n)
 more_named n word item behind specs None rest is joined others said = cc
@@ -119,6 +124,7 @@ more_named n word item behind specs (Some spec) (Some ss) is joined others said 
       few = omega arith;
     })
 
+-- what is read of a word are its items
 pub within-named : (n : ℕ) (word : Bytes) (specs : List Spec) → specs_within n word ≡ Some specs → IsNamed word specs n
 unfolding specs_within
 within-named zero word specs said = cc
@@ -133,6 +139,7 @@ within-named (suc n) word specs said = go (cut_at 44 word) refl said (λ behind 
 
 -- A list is what is read
 
+-- where two hold, each does
 pub both : (a b : Bool) → (a && b) ≡ true → (a ≡ true) × (b ≡ true)
 both true true is = (refl, refl)
 both true false is = cc
@@ -146,10 +153,12 @@ digits-lack (d ∷ ds) all =
     let least = (both (nat_le 48 d) (nat_le d 57) parts.0).0 in
     (grind (arith, nat_tests), digits-lack ds parts.1)
 
+-- two words without a byte, joined
 append-lack : (c : ℕ) (xs ys : Bytes) → Lacks c xs → Lacks c ys → Lacks c (xs ++ ys)
 append-lack c [] ys one two = two
 append-lack c (x ∷ xs) ys one two = (one.0, append-lack c xs ys one.1 two)
 
+-- a number has digits alone
 number-digits : (digits : Bytes) (n : ℕ) → number_of digits ≡ Some n → list_all is_digit digits ≡ true
 number-digits digits n is = go (list_all is_digit digits) refl
   where
@@ -157,6 +166,7 @@ number-digits digits n is = go (list_all is_digit digits) refl
     go true e = e
     go false e = let none = number_of-other digits e in cc
 
+-- a root has no comma
 rooted-lack : (kind : Kind) (digits : Bytes) (spec : Spec) → rooted kind digits ≡ Some spec → Lacks 44 digits
 rooted-lack kind digits spec is = go (nat_le (length digits) 7) refl (number_of digits) refl
   where
@@ -173,9 +183,11 @@ prefixed n prefix item kind spec begins lacks is =
     let whole : prefix ++ drop n item ≡ item = ap (λ (t : Bytes). t ++ drop n item) (sym front) ∙ take-append-drop n item in
     subst (Lacks 44) whole (append-lack 44 prefix (drop n item) lacks (rooted-lack kind (drop n item) spec is))
 
+-- `wcc` has no comma
 lacks-word : (item : Bytes) → bytes_eq item (codes "wcc") ≡ true → Lacks 44 item
 lacks-word item is = subst (Lacks 44) (sym ((bytes_eq-Decides item (codes "wcc")).0 is)) (refl, (refl, (refl, tt)))
 
+-- no item has a comma
 pub named-lack : (item : Bytes) (spec : Spec) → analysis_named item ≡ Some spec → Lacks 44 item
 unfolding analysis_named
 named-lack item spec is =
@@ -190,6 +202,7 @@ named-lack item spec is =
     go false w false b false p true q = prefixed 5 (codes "sswp:") item Sswp spec q (refl, (refl, (refl, (refl, (refl, tt))))) (rw (w, b, p, q) at is)
     go false w false b false p false q = let none = rw (w, b, p, q) at is in cc
 
+-- items that say analyses are read so
 pub named-within : (n : ℕ) (items : List Bytes) (specs : List Spec) → EachPair (λ item spec. analysis_named item ≡ Some spec) items specs
     → 1 ≤ length specs → length specs ≤ n → specs_within n (join_with_byte 44 items) ≡ Some specs
 unfolding specs_within
@@ -209,6 +222,7 @@ read_list word specs said =
     let is = within-named 4 word specs said in
     record { items = is.items; joined = is.joined; named = is.named; some = is.some; few = is.few }
 
+-- a list is read as it says
 pub list_read : (word : Bytes) (specs : List Spec) → IsAnalysisList word specs → specs_within 4 word ≡ Some specs
 list_read word specs is = rw is.joined (named-within 4 is.items specs is.named is.some is.few)
 
@@ -216,6 +230,7 @@ list_read word specs is = rw is.joined (named-within 4 is.items specs is.named i
 pub nothing_read : (word : Bytes) → is_some (specs_within 4 word) ≡ false → (specs : List Spec) → ¬ IsAnalysisList word specs
 nothing_read word none specs is = let said = rw (list_read word specs is) at none in cc
 
+-- a word of which analyses are read is a list of some
 pub something_read : (word : Bytes) → is_some (specs_within 4 word) ≡ true → ¬ ((specs : List Spec) → ¬ IsAnalysisList word specs)
 something_read word some none = go (specs_within 4 word) refl
   where
@@ -223,13 +238,9 @@ something_read word some none = go (specs_within 4 word) refl
     go None e = let bad = rw e at some in cc
     go (Some specs) e = none specs (read_list word specs e)
 
--- what was pushed behind nothing
-pub pushed-all : (o : Option (List Spec)) (old new : List Spec) → old ≡ [] → option_map (λ more. old ++ more) o ≡ Some new → o ≡ Some new
-pushed-all None old new empty is = cc
-pushed-all (Some specs) old new empty is = rw empty at is
-
 -- A word that says something begins with no hyphen
 
+-- a word begins with a byte that is no hyphen
 pub record Begins (word : Bytes) : Type 0 where
   pub byte : ℕ
   pub bytes : Bytes
@@ -244,6 +255,7 @@ number-begins (d ∷ ds) n is =
     let least = (both (nat_le 48 d) (nat_le d 57) parts.0).0 in
     record { byte = d; bytes = ds; whole = refl; no_hyphen = grind (arith, nat_tests) }
 
+-- a word that begins with a letter
 prefix-begins : (n byte : ℕ) (prefix item : Bytes) → (byte == 45) ≡ false → bytes_eq (take (suc n) item) (byte ∷ prefix) ≡ true → Begins item
 prefix-begins n byte prefix [] letter begins = cc
 prefix-begins n byte prefix (x ∷ xs) letter begins =

@@ -1,2 +1,10 @@
+pub mod Accepting
+pub mod CommandLines
 pub mod Cuts
+pub mod Finding
+pub mod Fitting
 pub mod ItemLemmas
+pub mod MadeLemmas
+pub mod Reading
+pub mod Telling
+pub mod Walking

@@ -18,10 +18,17 @@ pub fn read_analyses(alloc: Global, list: &str) -> Result<Specs, WordsError>
     ensures ok { IfOk result (λ specs. IsAnalysisList list.now specs) }
     ensures usage { (result ≡ Err WordsError.Usage) ↔ ((specs : List Spec) → ¬ IsAnalysisList list.now specs) }
 {
-    let list = list.as_bytes();
-    if !is_analysis_list(list) {
+    if !is_analysis_list(list.as_bytes()) {
         return Err(WordsError::Usage);
     }
+    Ok(listed(alloc, list.as_bytes())?)
+}
+
+/// The analyses of a list of this form.
+pub fn listed(alloc: Global, list: &[u8]) -> Result<Specs, NoMemory>
+    requires { is_some (specs_within 4 list.now) ≡ true }
+    ensures { IfOk result (λ specs. specs_within 4 list.now ≡ Some specs) }
+{
     let mut specs = Specs::new(alloc);
     push_analyses(&mut specs, list, MOST)?;
     Ok(specs)
@@ -54,7 +61,7 @@ fn push_analysis(specs: &mut Specs, item: &[u8]) -> Result<(), NoMemory>
 }
 
 /// Whether a list has the form, with 4 analyses at most.
-fn is_analysis_list(list: &[u8]) -> bool
+pub fn is_analysis_list(list: &[u8]) -> bool
     ensures { result ≡ is_some (specs_within 4 list.now) }
 {
     are_analyses(list, MOST)
@@ -120,7 +127,7 @@ fn root_of(digits: &[u8]) -> Option<u32>
 }
 
 /// What stands before the first byte `at`, and what behind it, where there is one.
-fn cut(bytes: &[u8], at: u8) -> Option<(&[u8], &[u8])>
+pub fn cut(bytes: &[u8], at: u8) -> Option<(&[u8], &[u8])>
     ensures { option_map (λ p. (p.0.now, p.1.now)) result ≡ cut_at at bytes.now }
 {
     match place_of(bytes, at) {

@@ -1,0 +1,4 @@
+pub mod Cells
+pub mod Commits
+pub mod Linking
+pub mod Packing

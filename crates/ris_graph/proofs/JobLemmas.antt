@@ -1,0 +1,230 @@
+-- Jobs by stripe: at most one of each session, so at most 64.
+use Rattle.std.proofs.Common.{◌≡◌, ◌≢◌, ℕ, ◌+◌, ◌<◌, ◌≤◌, ◌==◌, IsTrue, List, [], ◌∷◌, ◌++◌, None, length, get_or, set, map, arith, refl, inl, inr, sym, ap, subst, ◌∙◌, get_or-set_same, get_or-set_other}
+use Rattle.std.specs.List.{All, Contains, count_by, sum_by}
+use Rattle.std.proofs.lemmas.Bool.{cases_eq, cases_lt, eqb-true, eq-eqb, ne_eqb}
+use Rattle.std.proofs.lemmas.List.{get_or_past, get_or_default, get_or-replicate, length-replicate, length-set, length-append, length-map, ext_get_or}
+use Rattle.std.proofs.lemmas.List.Elements.{All-nil, All-cons, All-head, All-tail, All-append, All-map, All-push, All-contains, Contains-get_or}
+use Rattle.std.proofs.lemmas.List.Folds.{sum_by-replicate}
+use Rattle.std.proofs.lemmas.List.Sums.{sum_by-append, sum_by-cons, sum_by_push, sum_by-set, get_or-le-sum_by}
+use Rattle.ris_base.specs.Effect.{first_past_limit}
+use Rattle.ris_base.specs.Limits.{greatest_of}
+use Rattle.ris_base.specs.declared.events.Verdict.{Verdict}
+use Rattle.ris_base.specs.declared.events.Verdict.TheVariants.{Waiting}
+use Rattle.ris_base.specs.declared.graphs.Format.TheVariants.{Two}
+use Rattle.ris_base.specs.declared.updates.Update.{Update}
+use Rattle.ris_base.specs.declared.updates.Update.TheVariants.{AddV, DelV, AddE, DelE, SetW}
+use Rattle.ris_base.proofs.EffectLemmas.{one_if, count_by-cons}
+use Rattle.ris_base.proofs.ListLemmas.{Contains-none, Contains-first, Contains-rest}
+use Rattle.ris_graph.proofs.ListFacts.{few-once, found-count}
+use Rattle.ris_graph.specs.Jobs.{AreJobs, AreTold, HasSession, IsJob, IsJobOf, is_job, jobs_of, no_jobs, stripe_of, with_job}
+use Rattle.ris_graph.specs.declared.stripes.StripeJob.{StripeJob}
+
+-- Sessions
+
+-- the sessions of jobs, one after another
+abbrev pub sessions_of : List (List StripeJob) → List ℕ
+sessions_of [] = []
+sessions_of (jobs ∷ js) = map (λ j. j.session) jobs ++ sessions_of js
+
+abbrev pub job_count : List (List StripeJob) → ℕ
+job_count js = sum_by (λ jobs. length jobs) js
+
+pub count_by-sessions : (s : ℕ) (jobs : List StripeJob) → count_by (λ y. y == s) (map (λ (j : StripeJob). j.session) jobs) ≡ count_by (λ j. j.session == s) jobs
+count_by-sessions s [] = refl
+count_by-sessions s (j ∷ jobs) =
+    let rest = count_by-sessions s jobs in
+    let here = count_by-cons (λ (i : StripeJob). i.session == s) j jobs in
+    let there = count_by-cons (λ (y : ℕ). y == s) j.session (map (λ (i : StripeJob). i.session) jobs) in
+    omega arith
+
+count_by-sessions_of : (s : ℕ) (js : List (List StripeJob)) → count_by (λ y. y == s) (sessions_of js) ≡ jobs_of s js
+count_by-sessions_of s [] = refl
+count_by-sessions_of s (jobs ∷ js) =
+    let rest = count_by-sessions_of s js in
+    let both = sum_by-append (λ (y : ℕ). one_if (y == s)) (map (λ (j : StripeJob). j.session) jobs) (sessions_of js) in
+    let first = count_by-sessions s jobs in
+    let whole = sum_by-cons (λ (l : List StripeJob). count_by (λ j. j.session == s) l) jobs js in
+    omega arith
+
+length-sessions_of : (js : List (List StripeJob)) → length (sessions_of js) ≡ job_count js
+length-sessions_of [] = refl
+length-sessions_of (jobs ∷ js) =
+    let rest = length-sessions_of js in
+    let both = length-append (map (λ (j : StripeJob). j.session) jobs) (sessions_of js) in
+    let first = length-map jobs (λ (j : StripeJob). j.session) in
+    let whole = sum_by-cons (λ (l : List StripeJob). length l) jobs js in
+    omega arith
+
+All-sessions_of : (P : ℕ → Type 0) (js : List (List StripeJob)) → All (All (λ j. P j.session)) js → All P (sessions_of js)
+All-sessions_of P [] each = All-nil P
+All-sessions_of P (jobs ∷ js) each =
+    All-append P (map (λ (j : StripeJob). j.session) jobs) (sessions_of js) (All-map P (λ (j : StripeJob). j.session) jobs (All-head (All (λ j. P j.session)) jobs js each))
+    (All-sessions_of P js (All-tail (All (λ j. P j.session)) jobs js each))
+
+-- a job of one of the stripes has what holds of each
+pub each-job : (P : ℕ → StripeJob → Type 0) (js : List (List StripeJob)) → ((m : ℕ) → All (P m) (get_or js m [])) → (m : ℕ) (j : StripeJob) → Contains (get_or js m []) j → P m j
+each-job P js each m j has = All-contains (P m) (get_or js m []) j (each m) has
+
+-- a job stands at a place
+pub job-stripe : (js : List (List StripeJob)) (j : StripeJob) → IsJob js j → (m : ℕ) × (m < length js) × Contains (get_or js m []) j
+job-stripe js j h =
+    let m = h.1.0 in
+    let lt = h.1.1 in
+    (m, lt, subst (λ (l : List StripeJob). Contains l j) (sym h.1.2 ∙ get_or_default js m h.0 [] lt) h.2)
+
+-- and what stands at a place is a job
+pub IsJob-at : (js : List (List StripeJob)) (m : ℕ) (j : StripeJob) → Contains (get_or js m []) j → IsJob js j
+IsJob-at js m j has =
+    elim (cases_lt m (length js)) [
+      | inl lt ↦ (get_or js m [], Contains-get_or js m [] lt, has)
+      | inr past ↦ absurd (Contains-none j (subst (λ (l : List StripeJob). Contains l j) (get_or_past js m [] past) has))
+    ]
+
+-- a session that has jobs has one
+pub HasSession-count : (js : List (List StripeJob)) (s : ℕ) → 0 < jobs_of s js → HasSession js s
+HasSession-count [] s some = absurd (omega arith)
+HasSession-count (jobs ∷ js) s some =
+    let whole = sum_by-cons (λ (l : List StripeJob). count_by (λ j. j.session == s) l) jobs js in
+    elim (cases_lt 0 (count_by (λ j. j.session == s) jobs)) [
+      | inl here ↦ (let r = found-count (λ (j : StripeJob). j.session == s) jobs here in (r.0, (jobs, Contains-first jobs js, r.1), eqb-true r.0.session s r.2))
+      | inr none ↦ (let r = HasSession-count js s (omega arith) in (r.0, (r.1.0, Contains-rest jobs js r.1.0 r.1.1, r.1.2), r.2))
+    ]
+
+-- The number of jobs
+
+all_below : (js : List (List StripeJob)) → AreJobs js → All (λ x. x < 64) (sessions_of js)
+all_below js are =
+    All-sessions_of (λ x. x < 64) js (λ m d lt k e less. (
+    let jobs : List StripeJob = get_or js m d in
+    let same : get_or js m d ≡ get_or js m [] = get_or_default js m d [] lt in
+    (All-contains (IsJobOf m) (get_or js m []) (get_or jobs k e) (are.each m) (subst (λ (l : List StripeJob). Contains l (get_or jobs k e)) same (Contains-get_or jobs k e less))).session))
+
+-- there are at most 64
+pub job_count-le : (js : List (List StripeJob)) → AreJobs js → job_count js ≤ 64
+job_count-le js are =
+    let few = few-once 64 (sessions_of js) (all_below js are) (λ x. (let same = count_by-sessions_of x js in let once = are.once x in omega arith)) in
+    let size = length-sessions_of js in
+    omega arith
+
+-- and fewer where a session has none
+pub job_count-lt : (js : List (List StripeJob)) (s : ℕ) → AreJobs js → s < 64 → ¬ (HasSession js s) → job_count js < 64
+job_count-lt js s are low none =
+    let few = few-once 64 (s ∷ sessions_of js) (All-cons (λ x. x < 64) s (sessions_of js) low (all_below js are)) (λ x. (
+    let first = count_by-cons (λ (y : ℕ). y == x) s (sessions_of js) in
+    let same = count_by-sessions_of x js in
+    elim (cases_eq s x) [
+      | inl e ↦ (let one : one_if (s == x) ≡ 1 = rw (eq-eqb s x e) refl in
+          elim (cases_lt 0 (jobs_of x js)) [ inl some ↦ absurd (none (rw e (HasSession-count js x some))) | inr past ↦ omega arith ])
+      | inr n ↦ (let zero : one_if (s == x) ≡ 0 = rw (ne_eqb s x n) refl in let once = are.once x in omega arith)
+    ])) in
+    let size = length-sessions_of js in
+    omega arith
+
+pub stripe-jobs-le : (js : List (List StripeJob)) (m : ℕ) → length (get_or js m []) ≤ job_count js
+stripe-jobs-le js m =
+    elim (cases_lt m (length js)) [
+      | inl lt ↦ get_or-le-sum_by (λ (l : List StripeJob). length l) js m [] lt
+      | inr past ↦ (let none = ap length (get_or_past js m [] past) in omega arith)
+    ]
+
+-- No jobs
+
+pub no_jobs-at : (m : ℕ) → get_or no_jobs m [] ≡ []
+no_jobs-at m =
+    elim (cases_lt m 64) [ inl lt ↦ get_or-replicate 64 m [] [] lt | inr past ↦ get_or_past no_jobs m [] (let size = length-replicate {A = List StripeJob} 64 [] in omega arith) ]
+
+pub AreJobs-none : AreJobs no_jobs
+AreJobs-none = record {
+  stripes = length-replicate {A = List StripeJob} 64 [];
+  each = λ m. rw (no_jobs-at m) (All-nil (IsJobOf m));
+  once = λ s. (let zero = sum_by-replicate (λ (l : List StripeJob). count_by (λ j. j.session == s) l) 64 [] in omega arith);
+}
+
+pub AreTold-none : (verdicts : List Verdict) → length verdicts ≡ 64 → AreTold no_jobs verdicts
+AreTold-none verdicts size = record { sessions = size; told = λ m. rw (no_jobs-at m) (All-nil (λ j. get_or verdicts j.session Waiting ≡ j.verdict)) }
+
+-- 64 stripes of which each is empty
+pub no_jobs-is : (js : List (List StripeJob)) → length js ≡ 64 → ((m : ℕ) → m < 64 → get_or js m [] ≡ []) → js ≡ no_jobs
+no_jobs-is js size empty = ext_get_or [] js no_jobs (size ∙ sym (length-replicate {A = List StripeJob} 64 [])) (λ m lt. empty m (omega arith) ∙ sym (no_jobs-at m))
+
+-- One job more
+
+pub stripe_of-lt : (update : Update) → stripe_of update < 64
+stripe_of-lt (AddV x) = omega arith
+stripe_of-lt (DelV x) = omega arith
+stripe_of-lt (AddE u v w) = omega arith
+stripe_of-lt (DelE u v w) = omega arith
+stripe_of-lt (SetW u v w w2) = omega arith
+
+-- how many jobs of a session stand in a stripe
+jobs_at : ℕ → List StripeJob → ℕ
+jobs_at s jobs = count_by (λ j. j.session == s) jobs
+
+jobs_of-with_job : (js : List (List StripeJob)) (s : ℕ) (update : Update) (x : ℕ) → length js ≡ 64 → jobs_of x (with_job js s update) ≡ jobs_of x js + one_if (s == x)
+jobs_of-with_job js s update x size =
+    let m = stripe_of update in
+    let low = stripe_of-lt update in
+    let job : StripeJob = record { session = s; update = update; verdict = Waiting } in
+    let jobs : List StripeJob = get_or js m [] in
+    let whole = sum_by-set (λ (l : List StripeJob). count_by (λ j. j.session == x) l) js m (jobs ++ job ∷ []) [] (omega arith) in
+    let more = sum_by_push (λ (j : StripeJob). one_if (j.session == x)) jobs job in
+    omega (arith, whole, more)
+
+pub AreJobs-with_job : (js : List (List StripeJob)) (s : ℕ) (update : Update) → AreJobs js → s < 64 → ¬ (HasSession js s) → IsTrue (is_job update)
+    → first_past_limit (greatest_of Two) update ≡ None → AreJobs (with_job js s update)
+AreJobs-with_job js s update are low none kind limits =
+    let m = stripe_of update in
+    let size = are.stripes in
+    let lt = stripe_of-lt update in
+    let job : StripeJob = record { session = s; update = update; verdict = Waiting } in
+    let jobs : List StripeJob = get_or js m [] in
+    record {
+      stripes = length-set js m (jobs ++ job ∷ []) ∙ are.stripes;
+      each = λ k. elim (cases_eq k m) [
+        | inl same ↦ rw (same, get_or-set_same js m (jobs ++ job ∷ []) [] (omega arith))
+            (All-push (IsJobOf m) jobs job (are.each m) (record { session = low; kind = kind; limits = limits; home = refl }))
+        | inr other ↦ rw (get_or-set_other js m k (jobs ++ job ∷ []) [] other) (are.each k)
+      ];
+      once = λ x. (
+          let now = jobs_of-with_job js s update x are.stripes in
+          elim (cases_eq s x) [
+            | inl e ↦ (let one : one_if (s == x) ≡ 1 = rw (eq-eqb s x e) refl in
+                elim (cases_lt 0 (jobs_of x js)) [ inl some ↦ absurd (none (rw e (HasSession-count js x some))) | inr past ↦ omega arith ])
+            | inr n ↦ (let zero : one_if (s == x) ≡ 0 = rw (ne_eqb s x n) refl in let once = are.once x in omega arith)
+          ]);
+    }
+
+-- and the table has its verdict
+pub AreTold-with_job : (js : List (List StripeJob)) (s : ℕ) (update : Update) (verdicts : List Verdict) → length js ≡ 64 → s < 64 → ¬ (HasSession js s) → AreTold js verdicts
+    → AreTold (with_job js s update) (set verdicts s Waiting)
+AreTold-with_job js s update verdicts size low none told =
+    let m = stripe_of update in
+    let lt = stripe_of-lt update in
+    let job : StripeJob = record { session = s; update = update; verdict = Waiting } in
+    let jobs : List StripeJob = get_or js m [] in
+    let sessions = told.sessions in
+    let old : (k : ℕ) → All (λ j. get_or (set verdicts s Waiting) j.session Waiting ≡ j.verdict) (get_or js k []) = λ k i d less. (
+    let j : StripeJob = get_or (get_or js k []) i d in
+    let other : j.session ≢ s = λ same. none (j, IsJob-at js k j (Contains-get_or (get_or js k []) i d less), same) in
+    get_or-set_other verdicts s j.session Waiting Waiting other ∙ told.told k i d less) in
+    record {
+      sessions = length-set verdicts s Waiting ∙ told.sessions;
+      told = λ k. elim (cases_eq k m) [
+        | inl same ↦ rw (same, get_or-set_same js m (jobs ++ job ∷ []) [] (omega arith))
+            (All-push (λ j. get_or (set verdicts s Waiting) j.session Waiting ≡ j.verdict) jobs job (old m) (get_or-set_same verdicts s Waiting Waiting (omega arith)))
+        | inr other ↦ rw (get_or-set_other js m k (jobs ++ job ∷ []) [] other) (old k)
+      ];
+    }
+
+-- The verdict of a session
+
+pub session-lt : (js : List (List StripeJob)) (s : ℕ) → AreJobs js → HasSession js s → s < 64
+session-lt js s are h =
+    let at = job-stripe js h.0 h.1 in
+    let of = each-job (λ m j. IsJobOf m j) js are.each at.0 h.0 at.2 in
+    rw (← h.2) of.session
+
+pub told-job : (js : List (List StripeJob)) (verdicts : List Verdict) (j : StripeJob) → AreTold js verdicts → IsJob js j → get_or verdicts j.session Waiting ≡ j.verdict
+told-job js verdicts j told h =
+    let at = job-stripe js j h in
+    each-job (λ m i. get_or verdicts i.session Waiting ≡ i.verdict) js told.told at.0 j at.2

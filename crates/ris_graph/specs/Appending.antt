@@ -1,0 +1,18 @@
+-- One copy more at the end of a plain graph's triples.
+use Rattle.std.specs.Prelude.{◌-◌, ◌^◌, ◌<◌, [], ◌∷◌, ◌++◌}
+use Rattle.ris_base.specs.Graph.{IsProperTriple}
+use Rattle.ris_base.specs.declared.graphs.PlainGraph.{PlainGraph}
+use Rattle.ris_base.specs.declared.graphs.Triple.{Triple}
+use Rattle.ris_graph.specs.GraphView.{GraphView, IsOf, copies_in}
+
+-- a plain graph with one copy of a triple more
+abbrev pub appended : PlainGraph → Triple → PlainGraph
+appended p t = record p { triples = p.triples ++ t ∷ [] }
+
+-- a triple may be added to the graph: it joins vertices of the plain graph that the graph is, within the limit, and has fewer
+-- copies than a number can count
+pub record CanAppend (g : GraphView) (t : Triple) : Type 0 where
+  pub plain : PlainGraph
+  pub is : IsOf g plain
+  pub proper : IsProperTriple plain t
+  pub few : copies_in g t < 2 ^ 64 - 1

@@ -1,0 +1,13 @@
+pub mod Appending
+pub mod GraphView
+pub mod Jobs
+pub mod Lending
+pub mod Listings
+pub mod Nets
+pub mod Phase
+pub mod Putting
+pub mod Settling
+pub mod Sound
+pub mod StripeView
+pub mod Tables
+pub mod Ticks

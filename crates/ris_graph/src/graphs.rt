@@ -1,0 +1,161 @@
+ghost use Rattle.std.specs.Prelude.{◌≡◌, ◌<◌, ◌≤◌, ◌-◌, ◌+◌, ◌^◌, ℕ, List, [], ◌∷◌, ◌++◌, IsTrue, IfOk, OnOk, OnErr, length, min};
+ghost use Rattle.std.specs.List.{All};
+ghost use Rattle.std.specs.List.Sorted.{IsPermutation};
+ghost use Rattle.ris_base.specs.Limits.{vertex_limit, greatest_of};
+ghost use Rattle.ris_base.specs.Lists.{numbers_below};
+ghost use Rattle.ris_rows.specs.Neighbours.{IsAscending};
+
+use crate::outs::{OutRows, STRIPES};
+use crate::tables::RowTable;
+use ris_base::{Format, NoMemory, Triple, Triples};
+use ris_rows::Cursor;
+use std::alloc::Global;
+use std::marker::Model;
+
+/// A graph: vertices below 4,194,304, and copies of triples between them with weights up to the greatest of its format.
+/// Its cursors count by a meter of the type `M`.
+///
+/// Each vertex number up to the greatest that was present has two rows, of its out neighbours and of its in neighbours,
+/// which take 48 bytes, and a byte for whether it is present. A triple takes 48 bytes more, with all its copies. The out
+/// rows stand in 64 stripes, which may be lent to workers.
+#[derive(Drop)]
+pub struct Graph<M> {
+    pub(crate) alloc: Global,
+    pub(crate) format: Format,
+    pub(crate) outs: OutRows<M>,
+    pub(crate) ins: RowTable<M>,
+    pub(crate) present: Vec<bool>,
+}
+
+impl<M> Model for Graph<M> {
+    ghost use Rattle.ris_graph.specs.GraphView.{GraphView};
+    ghost use Rattle.ris_graph.specs.Sound.{IsSound};
+
+    ghost Value = { GraphView };
+
+    ghost view = { λ g. record { format = g.format; stripes = g.outs; ins = g.ins; present = g.present.items } };
+
+    ghost invariant = { λ g. IsSound (record { format = g.format; stripes = g.outs; ins = g.ins; present = g.present.items }) };
+}
+
+impl<M> Graph<M> {
+    ghost use Rattle.ris_base.specs.declared.graphs.PlainGraph.{PlainGraph};
+    ghost use Rattle.ris_graph.specs.GraphView.{copies_in, out_row, in_row, vertex_in, IsOf, HasRoomOf};
+    ghost use Rattle.ris_graph.specs.Appending.{CanAppend, appended};
+
+    /// The graph that has the vertices below `vertices`, which are at most 4,194,304, and the triples of `base`, each
+    /// time that one stands there a copy. It sorts the triples once, and fills each row in ascending order.
+    pub fn start(
+        alloc: Global,
+        vertices: u32,
+        format: Format,
+        base: &Triples,
+    ) -> Result<Graph<M>, NoMemory>
+        requires few { vertices ≤ vertex_limit }
+        requires ends { All (λ t. (t.source < vertices) × (t.target < vertices)) base.now }
+        requires weights { All (λ t. t.weight ≤ greatest_of format) base.now }
+        ensures { IfOk result (λ g. IsOf g (record { format = format; vertices = numbers_below vertices; triples = base.now })) }
+    {
+        let sorted = sorted(alloc, base)?;
+        let mut graph = Graph::edgeless(alloc, vertices, format)?;
+        for t in &sorted {
+            graph.append(*t)?;
+        }
+        Ok(graph)
+    }
+
+    /// The graph that has the vertices below `vertices` and no triples.
+    fn edgeless(alloc: Global, vertices: u32, format: Format) -> Result<Graph<M>, NoMemory>
+        requires { vertices ≤ vertex_limit }
+        ensures { IfOk result (λ g. IsOf g (record { format = format; vertices = numbers_below vertices; triples = [] })) }
+    {
+        let mut outs = OutRows::new(alloc)?;
+        outs.grow(alloc, (vertices as usize).div_ceil(STRIPES))?;
+        let mut ins = RowTable::new(alloc);
+        ins.grow(alloc, vertices as usize)?;
+        let present = vec![in alloc; true; vertices as usize]?;
+        Ok(Graph {
+            alloc,
+            format,
+            outs,
+            ins,
+            present,
+        })
+    }
+
+    /// One copy more of a triple, in constant time where no neighbour stands past it in its two rows.
+    fn append(&mut self, t: Triple) -> Result<(), NoMemory>
+        requires { CanAppend self.old t }
+        ensures { OnOk result ((p : PlainGraph) → IsOf self.old p → IsOf self.new (appended p t)) }
+    {
+        self.make_room(t, 1)?;
+        self.outs.append(t.source, t.target, t.weight);
+        self.ins.append(t.target as usize, t.source, t.weight);
+        Ok(())
+    }
+
+    /// The format of the graph.
+    pub fn format(&self) -> Format
+        ensures { result ≡ self.now.format }
+    {
+        self.format
+    }
+
+    /// The number of copies of a triple. A binary search.
+    pub fn copies(&self, t: Triple) -> u64
+        ensures { result ≡ copies_in self.now t }
+    {
+        self.outs.count(t.source, t.target, t.weight)
+    }
+
+    /// Whether `x` is a vertex of the graph.
+    pub fn has_vertex(&self, x: u64) -> bool
+        ensures { result ≡ vertex_in self.now x }
+    {
+        match self.present.get(x as usize) {
+            Some(there) => *there,
+            None => false,
+        }
+    }
+
+    /// A cursor before the first neighbour to which a triple from `x` leads.
+    pub fn out_cursor(&self, x: u32) -> Cursor<'_, M>
+        ensures items { result ≡ (out_row self.now x).items }
+        ensures ascending { IsAscending result }
+    {
+        self.outs.cursor(x)
+    }
+
+    /// A cursor before the first neighbour from which a triple leads to `x`.
+    pub fn in_cursor(&self, x: u32) -> Cursor<'_, M>
+        ensures items { result ≡ (in_row self.now x).items }
+        ensures ascending { IsAscending result }
+    {
+        self.ins.cursor(x as usize)
+    }
+
+    /// Makes room for `n` inserts in both rows of a triple between vertices of the graph. No row loses room, also where
+    /// `NoMemory` comes.
+    pub fn make_room(&mut self, t: Triple, n: u64) -> Result<(), NoMemory>
+        requires source { IsTrue (vertex_in self.old t.source) }
+        requires target { IsTrue (vertex_in self.old t.target) }
+        ensures out_room { OnOk result (n ≤ (out_row self.new t.source).spare) }
+        ensures in_room { OnOk result (n ≤ (in_row self.new t.target).spare) }
+        ensures same { HasRoomOf self.old self.new }
+    {
+        self.outs.reserve(t.source, n)?;
+        self.ins.reserve(t.target as usize, n)
+    }
+}
+
+/// A sorted copy of triples: by source, then by target, then by weight.
+fn sorted(alloc: Global, triples: &Triples) -> Result<Vec<Triple>, NoMemory>
+    ensures { IfOk result (λ v. IsPermutation triples.now v.items) }
+{
+    let mut sorted = Vec::with_capacity(alloc, triples.len() as usize)?;
+    for k in 0..triples.len() {
+        sorted.push(*triples.at(k))?;
+    }
+    sorted.sort_unstable_by_key(|t| (t.source, t.target, t.weight));
+    Ok(sorted)
+}

@@ -1,0 +1,98 @@
+ghost use Rattle.std.specs.Prelude.{◌≡◌, ◌<◌, None, length, fold};
+ghost use Rattle.std.specs.List.{All};
+ghost use Rattle.ris_base.specs.Effect.{first_past_limit};
+ghost use Rattle.ris_base.specs.Limits.{greatest_of};
+ghost use Rattle.ris_base.specs.declared.graphs.Format.TheVariants.{Two};
+ghost use Rattle.ris_graph.specs.Settling.{CanAdd, CanTake, HasAddRoom, HasInRow, jobs_in, with_added, with_taken, with_told};
+
+use crate::stripes::{Stripe, StripeJob};
+use crate::tables::RowTable;
+use ris_base::{Update, Verdict};
+
+/// Adds to the in rows the copies that the applied jobs of all stripes added. It costs an insert for each.
+pub(crate) fn add_all<M>(ins: &mut RowTable<M>, stripes: &[Stripe<M>])
+    requires { CanAdd ins.old (jobs_in stripes.now) }
+    ensures { ins.new ≡ fold with_added ins.old (jobs_in stripes.now) }
+{
+    for stripe in stripes {
+        add_copies(ins, stripe.job_list());
+    }
+}
+
+/// Adds to the in rows the copies that applied jobs added.
+fn add_copies<M>(ins: &mut RowTable<M>, jobs: &[StripeJob])
+    requires { CanAdd ins.old jobs.now }
+    ensures { ins.new ≡ fold with_added ins.old jobs.now }
+{
+    for job in jobs {
+        add_copy(ins, *job);
+    }
+}
+
+/// Adds to the in rows the copy that a job added, where it was applied.
+fn add_copy<M>(ins: &mut RowTable<M>, job: StripeJob)
+    requires limits { first_past_limit (greatest_of Two) job.update ≡ None }
+    requires room { HasAddRoom ins.old 1 job.update }
+    ensures { ins.new ≡ with_added ins.old job }
+{
+    if job.verdict != Verdict::Applied {
+        return;
+    }
+    if let Update::AddE { u, v, w } = job.update {
+        ins.insert(v as usize, u as u32, w);
+    }
+}
+
+/// Takes from the in rows the copies that the applied jobs of all stripes took. It costs a removal for each.
+pub(crate) fn take_all<M>(ins: &mut RowTable<M>, stripes: &[Stripe<M>])
+    requires { CanTake ins.old (jobs_in stripes.now) }
+    ensures { ins.new ≡ fold with_taken ins.old (jobs_in stripes.now) }
+{
+    for stripe in stripes {
+        take_copies(ins, stripe.job_list());
+    }
+}
+
+/// Takes from the in rows the copies that applied jobs took.
+fn take_copies<M>(ins: &mut RowTable<M>, jobs: &[StripeJob])
+    requires { CanTake ins.old jobs.now }
+    ensures { ins.new ≡ fold with_taken ins.old jobs.now }
+{
+    for job in jobs {
+        take_copy(ins, *job);
+    }
+}
+
+/// Takes from the in rows the copy that a job took, where it was applied.
+fn take_copy<M>(ins: &mut RowTable<M>, job: StripeJob)
+    requires limits { first_past_limit (greatest_of Two) job.update ≡ None }
+    requires row { HasInRow ins.old job.update }
+    ensures { ins.new ≡ with_taken ins.old job }
+{
+    if job.verdict != Verdict::Applied {
+        return;
+    }
+    if let Update::DelE { u, v, w } = job.update {
+        ins.remove(v as usize, u as u32, w);
+    }
+}
+
+/// Notes the verdicts of the jobs of all stripes, by session.
+pub(crate) fn tell_all<M>(verdicts: &mut Vec<Verdict>, stripes: &[Stripe<M>])
+    requires { All (λ j. j.session < length verdicts.old.items) (jobs_in stripes.now) }
+    ensures { verdicts.new.items ≡ fold with_told verdicts.old.items (jobs_in stripes.now) }
+{
+    for stripe in stripes {
+        tell(verdicts, stripe.job_list());
+    }
+}
+
+/// Notes the verdicts of jobs, by session.
+fn tell(verdicts: &mut Vec<Verdict>, jobs: &[StripeJob])
+    requires { All (λ j. j.session < length verdicts.old.items) jobs.now }
+    ensures { verdicts.new.items ≡ fold with_told verdicts.old.items jobs.now }
+{
+    for job in jobs {
+        verdicts[job.session as usize] = job.verdict;
+    }
+}
