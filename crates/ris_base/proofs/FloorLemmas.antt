@@ -38,14 +38,14 @@ or-true : (a b : Bool) → a ≡ true → (a || b) ≡ true
 or-true a b h = rw h refl
 
 -- the number of entries before the last leave is at most the front
-front_at_leave-within : (n at : ℕ) (xs : List Line) → at ≤ n → front_at_leave n at xs ≤ n + front xs
+pub front_at_leave-within : (n at : ℕ) (xs : List Line) → at ≤ n → front_at_leave n at xs ≤ n + front xs
 unfolding front_at_leave front
 front_at_leave-within n at [] h = omega arith
 front_at_leave-within n at (line.Entry e ∷ xs) h = let more = front_at_leave-within (n + 1) at xs (omega arith) in omega arith
 front_at_leave-within n at (line.Mark s q u ∷ xs) h = front_at_leave-within n at xs h
 front_at_leave-within n at (line.Leave s q ∷ xs) h = front_at_leave-within n n xs (omega arith)
 
-front_at_leave-append : (n at : ℕ) (xs ys : List Line) → front_at_leave n at (xs ++ ys) ≡ front_at_leave (n + front xs) (front_at_leave n at xs) ys
+pub front_at_leave-append : (n at : ℕ) (xs ys : List Line) → front_at_leave n at (xs ++ ys) ≡ front_at_leave (n + front xs) (front_at_leave n at xs) ys
 unfolding front_at_leave front
 front_at_leave-append n at [] ys = ap (λ (k : ℕ). front_at_leave k at ys) (omega arith)
 front_at_leave-append n at (line.Entry e ∷ xs) ys =
@@ -106,7 +106,7 @@ least_mark-rises (suc n) xs ys marks leaves = go (has_left xs n) (has_left ys n)
     go false false l h = least_mark-step (mark xs n) (mark ys n) (least_mark n xs) (least_mark n ys) (marks n) h
 
 -- a least mark is at most the front
-least_mark-within : (n : ℕ) (xs : List Line) (a : ℕ) → AreMarksWithin xs → least_mark n xs ≡ Some a → a ≤ front xs
+pub least_mark-within : (n : ℕ) (xs : List Line) (a : ℕ) → AreMarksWithin xs → least_mark n xs ≡ Some a → a ≤ front xs
 unfolding least_mark
 least_mark-within zero xs a marks e = absurd (cc)
 least_mark-within (suc n) xs a marks e = go (least_mark-within n xs a marks) (has_left xs n) (least_mark n xs) refl e

@@ -38,17 +38,6 @@ present-lt g x there =
 
 -- Room
 
-pub HasRoomOf-refl : (g : GraphView) → HasRoomOf g g
-HasRoomOf-refl g = record {
-  format = refl;
-  tables = omega arith;
-  vertices = λ x. refl;
-  outs = λ u. refl;
-  ins = λ v. refl;
-  out_room = λ u. omega arith;
-  in_room = λ v. omega arith;
-}
-
 pub HasRoomOf-trans : (g h k : GraphView) → HasRoomOf g h → HasRoomOf h k → HasRoomOf g k
 HasRoomOf-trans g h k a b = record {
   format = b.format ∙ a.format;

@@ -156,10 +156,6 @@ stripe_of-lt (AddE u v w) = omega arith
 stripe_of-lt (DelE u v w) = omega arith
 stripe_of-lt (SetW u v w w2) = omega arith
 
--- how many jobs of a session stand in a stripe
-jobs_at : ℕ → List StripeJob → ℕ
-jobs_at s jobs = count_by (λ j. j.session == s) jobs
-
 jobs_of-with_job : (js : List (List StripeJob)) (s : ℕ) (update : Update) (x : ℕ) → length js ≡ 64 → jobs_of x (with_job js s update) ≡ jobs_of x js + one_if (s == x)
 jobs_of-with_job js s update x size =
     let m = stripe_of update in

@@ -64,11 +64,6 @@ handed-first (n ∷ ns) rest e w k item is =
     let d = ap (λ (x : ℕ × ℕ × ℕ). x.2) same in
     rw (is, a, b, d) refl
 
--- none was left
-pub handed-none : (ns : List Neighbour) → None ≡ option_map handed (slice_get ns 0) → ns ≡ []
-handed-none [] item = refl
-handed-none (n ∷ ns) item = absurd (cc)
-
 -- one row more of a list of triples
 pub row-step : (u e w k : ℕ) (before after all : List Triple) (ns rest : List Neighbour) → ns ≡ record { end = e; weight = w; copies = k } ∷ rest
     → before ++ row_triples u ns ≡ all → after ≡ before ++ replicate k (triple u e w) → after ++ row_triples u rest ≡ all

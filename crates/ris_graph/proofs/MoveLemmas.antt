@@ -37,12 +37,3 @@ CanCarry-left t u js ks rows jobs a b size fit m lt =
     let first : get_or u m [] ≡ get_or t m [] = ap (λ x. get_or x m []) a ∙ get_or_append_left t (rows ∷ []) [] m lt in
     let second : get_or ks m [] ≡ get_or js m [] = ap (λ x. get_or x m []) b ∙ get_or_append_left js (jobs ∷ []) [] m (omega arith) in
     subst (λ (x : List StripeJob). CanCarry (get_or t m []) x) second (subst (λ (x : List RowView). CanCarry x (get_or ks m [])) first (fit m (omega arith)))
-
--- and the last ones fit
-pub CanCarry-last : (t u : List (List RowView)) (js ks : List (List StripeJob)) (rows : List RowView) (jobs : List StripeJob) → u ≡ t ++ rows ∷ [] → ks ≡ js ++ jobs ∷ []
-    → length t ≡ length js → ((m : ℕ) → m < length u → CanCarry (get_or u m []) (get_or ks m [])) → CanCarry rows jobs
-CanCarry-last t u js ks rows jobs a b size fit =
-    let more = ap length a ∙ length_push t rows in
-    let first : get_or u (length t) [] ≡ rows = ap (λ x. get_or x (length t) []) a ∙ get_or_push t rows [] (length t) refl in
-    let second : get_or ks (length t) [] ≡ jobs = ap (λ x. get_or x (length t) []) b ∙ get_or_push js jobs [] (length t) (sym size) in
-    subst (λ (x : List StripeJob). CanCarry rows x) second (subst (λ (x : List RowView). CanCarry x (get_or ks (length t) [])) first (fit (length t) (omega arith)))

@@ -46,9 +46,6 @@ All-last P xs x h =
     subst P (get_or_push xs x x (length xs) refl) (h (length xs) x (omega arith))
 
 module _ (place end : NetTriple → ℕ) (forward : Bool) (old : ℕ → RowView) where
-  pub ArePut-none : ((a : ℕ) → IsAscending (old a).items) → ArePut place end forward old old []
-  ArePut-none ascending = record { ascending = ascending; set = λ k d lt. absurd (omega arith); rest = λ a e w h. refl; spare = λ a. refl }
-
   -- a triple that stands apart from those that were put has the copies that it begins with
   pub ArePut-before : (mid : ℕ → RowView) (done : List NetTriple) (t : NetTriple) → ArePut place end forward old mid done
       → copies_of (old (place t)).items (end t) t.triple.weight ≡ count_from forward t

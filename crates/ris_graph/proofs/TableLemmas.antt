@@ -7,17 +7,6 @@ use Rattle.ris_rows.specs.RowView.{RowView}
 use Rattle.ris_graph.specs.GraphView.{no_row, row_at}
 use Rattle.ris_graph.specs.Tables.{row_of, with_row, HasRow, IsRoomier}
 
--- one place more, without neighbours
-pub row_at-push : (rows : List RowView) (r : RowView) (k : ℕ) → r ≡ no_row → row_at (rows ++ r ∷ []) k ≡ row_at rows k
-row_at-push rows r k none =
-    elim (cases_lt k (length rows)) [
-      | inl lt ↦ get_or_append_left rows (r ∷ []) no_row k lt
-      | inr past ↦ (elim (cases_eq k (length rows)) [
-        | inl e ↦ get_or_push rows r no_row k (sym e) ∙ none ∙ sym (get_or_past rows k no_row past)
-        | inr n ↦ get_or_past (rows ++ r ∷ []) k no_row (omega (arith, length_push rows r)) ∙ sym (get_or_past rows k no_row past)
-      ])
-    ]
-
 -- Tables of a stripe
 
 -- the row of u stands in the table of its stripe
@@ -26,12 +15,6 @@ unfolding row_of
 table-row t u rows size read =
     let lt : u % 64 < length t = omega arith in
     ap (λ (l : List RowView). row_at l (u / 64)) (sym (get_or_read t (u % 64) rows lt read []))
-
-pub table-has_row : (t : List (List RowView)) (u : ℕ) (rows : List RowView) → length t ≡ 64 → rows ≡ get_or t (u % 64) rows → HasRow t u → u / 64 < length rows
-table-has_row t u rows size read has =
-    let lt : u % 64 < length t = omega arith in
-    let same = ap length (get_or_read t (u % 64) rows lt read []) in
-    omega arith
 
 -- what a write of a row in its table makes
 pub table-written : (t : List (List RowView)) (u : ℕ) (rows new : List RowView) (r : RowView) → length t ≡ 64 → rows ≡ get_or t (u % 64) rows → new ≡ set rows (u / 64) r
