@@ -18,10 +18,10 @@ use Rattle.ris_algo.proofs.Parents.{up-ended, up-suc}
 use Rattle.ris_algo.proofs.Vertices.{pigeonhole, IsDistinct-from_once}
 
 -- a path from x to a vertex without a parent that comes to no vertex twice
-record SimplePath (F : Forest) (x : ℕ) : Type 0 where
-  stops : List ℕ
-  follows : Follows F x stops
-  once : EachOnce (x ∷ stops)
+pub record SimplePath (F : Forest) (x : ℕ) : Type 0 where
+  pub stops : List ℕ
+  pub follows : Follows F x stops
+  pub once : EachOnce (x ∷ stops)
 
 -- the path of a vertex without a parent
 path_here : (F : Forest) (x : ℕ) → F.parent x ≡ parent.None → SimplePath F x
@@ -39,7 +39,7 @@ rest_from F x y (z ∷ rest) follows once has = elim (Contains-cases y (z ∷ re
 ]
 
 -- where parents lead to a vertex without one, a path does that comes to no vertex twice
-simple_path : (F : Forest) (k x : ℕ) → F.parent (up F k x) ≡ parent.None → SimplePath F x
+pub simple_path : (F : Forest) (k x : ℕ) → F.parent (up F k x) ≡ parent.None → SimplePath F x
 unfolding up
 simple_path F zero x root = path_here F x root
 simple_path F (suc k) x root = go (F.parent x) refl (λ y. simple_path F k y)

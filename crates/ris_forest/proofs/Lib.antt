@@ -5,3 +5,4 @@ pub mod PlaceLemmas
 pub mod CellLemmas
 pub mod KeptLemmas
 pub mod WalkLemmas
+pub mod SubtreeLemmas

@@ -38,7 +38,7 @@ vertex_or-some : (x p : ℕ) (q : Parent) → vertex_of q ≡ Some p → vertex_
 vertex_or-some x p parent.None h = absurd (none-some p h)
 vertex_or-some x p (parent.From vertex source target weight) h = same_Some vertex p h
 
-up-above : (F : Forest) (k x p : ℕ) → vertex_of (F.parent x) ≡ Some p → up F (suc k) x ≡ up F k p
+pub up-above : (F : Forest) (k x p : ℕ) → vertex_of (F.parent x) ≡ Some p → up F (suc k) x ≡ up F k p
 up-above F k x p h = up-suc F k x ∙ ap (up F k) (vertex_or-some x p (F.parent x) h)
 
 -- a vertex that is so many parents above itself is so many times that above itself

@@ -1,8 +1,9 @@
 ghost use Rattle.std.specs.Prelude.{◌≡◌, ◌<◌, ◌≤◌, ◌-◌, ◌*◌, ◌^◌, ◌++◌, All, IfOk, OnOk, OnErr, length, max, min, replicate};
+ghost use Rattle.ris_base.specs.Safe.{is_along};
 
-use crate::Delta;
 use crate::nodes::{self, Node};
-use ris_base::{NoMemory, Parent, VERTEX_LIMIT, Value, Vertices};
+use crate::{Delta, Subtrees};
+use ris_base::{NoMemory, Parent, Triple, VERTEX_LIMIT, Value, Vertices};
 use std::alloc::Global;
 use std::marker::Model;
 
@@ -32,6 +33,7 @@ impl<A> Model for Forest<A> {
 impl<A> Forest<A> {
     ghost use Rattle.ris_forest.specs.Cells.{forest_of, absent_cell, IsRooted, IsSmall, IsSound, AreBelow};
     ghost use Rattle.ris_forest.specs.Commits.{committed, with_rows, IsRowBelow};
+    ghost use Rattle.ris_forest.specs.Growing.{GoesOn, GrowsBelow, IsClosed};
 
     /// A forest of absent vertices, with a table of the vertex numbers below `size`.
     pub fn start(alloc: Global, algo: A, size: u32) -> Result<Forest<A>, NoMemory>
@@ -63,6 +65,22 @@ impl<A> Forest<A> {
         nodes::parent_of(&self.nodes, x)
     }
 
+    /// Whether the parent of a vertex number is along a triple. Constant time.
+    pub fn hangs_by(&self, x: u64, t: Triple) -> bool
+        ensures along { result ≡ is_along t ((forest_of self.now.cells).parent x) }
+        ensures sound { IsSound self.now.cells }
+    {
+        match self.parent(x) {
+            Parent::None => false,
+            Parent::From {
+                source,
+                target,
+                weight,
+                ..
+            } => t.source == source && t.target == target && t.weight == weight,
+        }
+    }
+
     /// The algorithm of the analysis. Constant time.
     pub fn algo(&self) -> &A
         ensures algo { result.now ≡ self.now.algo }
@@ -79,6 +97,25 @@ impl<A> Forest<A> {
     {
         let found = nodes::below(*self.nodes.allocator(), &self.nodes, x)?;
         Ok(Vertices::from_vec(found))
+    }
+
+    /// Adds `x` and all that hang below it to vertices that have all that hang below each of them. It stops at vertices that
+    /// are there already, and takes time and memory of what it adds. After `NoMemory` some of them may be added.
+    pub fn add_below(&self, x: u32, found: &mut Subtrees) -> Result<(), NoMemory>
+        ensures ok { OnOk result (IsClosed (forest_of self.now.cells) found.old
+            → GrowsBelow (forest_of self.now.cells) x found.old found.new) }
+        ensures on { GoesOn found.old found.new }
+        ensures sound { IsSound self.now.cells }
+    {
+        nodes::add_below(&self.nodes, x, found)
+    }
+
+    /// The size of the table: there is room for the vertex numbers below it. Constant time.
+    pub fn size(&self) -> u32
+        ensures size { result ≡ length self.now.cells }
+        ensures sound { IsSound self.now.cells }
+    {
+        self.nodes.len() as u32
     }
 
     /// Makes room for the vertex numbers below `size`: they may then be committed, and so may all that could be before.

@@ -6,6 +6,8 @@ mod deltas;
 mod forests;
 mod nodes;
 mod packing;
+mod subtrees;
 
 pub use deltas::{Delta, DeltaRow, Deltas, Fallen};
 pub use forests::Forest;
+pub use subtrees::Subtrees;

@@ -1,11 +1,12 @@
 ghost use Rattle.std.specs.Prelude.{◌≡◌, ◌-◌, ◌<◌, ◌≤◌, ◌^◌, ◌++◌, All, length, replicate, slice_set, vec_len, IfOk, OnOk, OnErr};
 ghost use Rattle.ris_forest.specs.Cells.{forest_of, AreBelow, IsSmall};
 ghost use Rattle.ris_forest.specs.Commits.{cell_of, committed, IsRowBelow};
+ghost use Rattle.ris_forest.specs.Growing.{GoesOn, GrowsBelow, GrowsByMissing, IsClosed};
 ghost use Rattle.ris_forest.specs.Packing.{unpacked};
 ghost use Rattle.ris_forest.specs.Linking.{absent_node, node_at, with_first, with_next, with_previous, with_packed, unlinked, linked, cells_of, above_of, without_above, AreLinked, GrowsByChildren, IsKept};
 
 use crate::packing::Packed;
-use crate::{Delta, DeltaRow};
+use crate::{Delta, DeltaRow, Subtrees};
 use ris_base::{NoMemory, Parent, Value};
 use std::alloc::Global;
 use std::mem::size_of;
@@ -229,4 +230,38 @@ pub fn below(alloc: Global, nodes: &[Node], x: u32) -> Result<Vec<u32>, NoMemory
         at += 1;
     }
     Ok(found)
+}
+
+/// Adds the children of a vertex that aren't there.
+fn add_children(nodes: &[Node], vertex: u32, found: &mut Subtrees) -> Result<(), NoMemory>
+    requires few { length nodes.now < 2 ^ 32 }
+    requires linked { AreLinked nodes.now (above_of nodes.now) }
+    ensures ok { OnOk result (GrowsByMissing (above_of nodes.now) vertex found.old found.new) }
+    ensures on { GoesOn found.old found.new }
+{
+    let mut child = links_of(nodes, vertex).first;
+    while child != NO_VERTEX {
+        found.insert(child)?;
+        let links = links_of(nodes, child);
+        child = links.next;
+    }
+    Ok(())
+}
+
+/// Adds the vertex `x` and all that hang below it, where they aren't there: what is added is a queue, to whose end the
+/// children of each vertex go.
+pub fn add_below(nodes: &[Node], x: u32, found: &mut Subtrees) -> Result<(), NoMemory>
+    requires { IsKept nodes.now }
+    ensures ok { OnOk result (IsClosed (forest_of (cells_of nodes.now)) found.old
+        → GrowsBelow (forest_of (cells_of nodes.now)) x found.old found.new) }
+    ensures on { GoesOn found.old found.new }
+{
+    let mut at = found.len();
+    found.insert(x)?;
+    while at < found.len() {
+        let vertex = found.at(at);
+        add_children(nodes, vertex, found)?;
+        at += 1;
+    }
+    Ok(())
 }

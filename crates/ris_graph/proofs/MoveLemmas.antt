@@ -1,6 +1,6 @@
 -- Rows and jobs that are moved into stripes, from the last to the first, and back.
 use Rattle.std.proofs.Common.{◌≡◌, ℕ, ◌<◌, List, [], ◌∷◌, ◌++◌, length, get_or, reverse, arith, refl, sym, ap, subst, ◌∙◌}
-use Rattle.std.proofs.lemmas.List.{append_assoc, get_or_append_left, get_or_push, length_push, reverse-append}
+use Rattle.std.proofs.lemmas.List.{append_assoc, get_or_append_left, length_push, reverse-append}
 use Rattle.ris_rows.specs.RowView.{RowView}
 use Rattle.ris_graph.specs.Phase.{with_jobs}
 use Rattle.ris_graph.specs.StripeView.{CanCarry, StripeView, fresh}

@@ -7,7 +7,7 @@ use Rattle.std.proofs.lemmas.List.{length_push, length-take-le, get_or-take, get
 use Rattle.std.proofs.lemmas.List.Elements.{All-push}
 use Rattle.std.proofs.lemmas.List.Folds.{list_any_at, Any-from_list_any}
 use Rattle.std.proofs.lemmas.List.Sums.{sum_by_push, sum_by_more_le}
-use Rattle.ris_rows.specs.Neighbours.{IsAscending, copies_of}
+use Rattle.ris_rows.specs.Neighbours.{copies_of}
 use Rattle.ris_rows.specs.RowView.{RowView}
 use Rattle.ris_graph.specs.Putting.{count_from, count_to, comes_to, is_at, IsPut, IsPutOnce, HasPutRoom, ArePut, CanPut}
 use Rattle.ris_graph.specs.declared.nets.NetTriple.{NetTriple}

@@ -1,8 +1,8 @@
 -- Rows in tables and in stripes: what a change of one row leaves of the others.
-use Rattle.std.proofs.Common.{◌≡◌, ◌≢◌, ℕ, ◌<◌, ◌≤◌, ◌/◌, ◌%◌, List, [], ◌∷◌, ◌++◌, length, get_or, set, arith, inl, inr, sym, ap, subst, ◌∙◌, get_or-set_same, get_or-set_other}
+use Rattle.std.proofs.Common.{◌≡◌, ◌≢◌, ℕ, ◌<◌, ◌≤◌, ◌/◌, ◌%◌, List, [], length, get_or, set, arith, inl, inr, sym, ap, subst, ◌∙◌, get_or-set_same, get_or-set_other}
 use Rattle.std.specs.List.{All}
 use Rattle.std.proofs.lemmas.Bool.{cases_eq, cases_lt}
-use Rattle.std.proofs.lemmas.List.{length-set, get_or_read, get_or_past, get_or_append_left, get_or_push, length_push, set_past}
+use Rattle.std.proofs.lemmas.List.{length-set, get_or_read, get_or_past, set_past}
 use Rattle.ris_rows.specs.RowView.{RowView}
 use Rattle.ris_graph.specs.GraphView.{no_row, row_at}
 use Rattle.ris_graph.specs.Tables.{row_of, with_row, HasRow, IsRoomier}

@@ -1,0 +1,13 @@
+pub mod AnswerLaws
+pub mod ChainLemmas
+pub mod ChangeLemmas
+pub mod DueLemmas
+pub mod FloorLaws
+pub mod KeptLaws
+pub mod MovedLaws
+pub mod MovedLemmas
+pub mod PathLemmas
+pub mod StandLemmas
+pub mod TableLaws
+pub mod TableLemmas
+pub mod ValueLaws

@@ -1,0 +1,26 @@
+use Rattle.std.proofs.Common.{sym, subst, ap, ◌∙◌, Option, Result, Ok}
+use Rattle.ris_base.specs.Lists.{unless}
+use Rattle.ris_base.specs.declared.analyses.Value.{Value}
+use Rattle.ris_base.specs.declared.replies.ReadRefusal.{ReadRefusal}
+use Rattle.ris_base.specs.declared.requests.Question.TheVariants as question
+use Rattle.ris_history.specs.HistoryView.{HistoryView, shown}
+use Rattle.ris_history.specs.Reads.{IsAnswer, value_reply}
+use Rattle.ris_history.proofs.AnswerLaws.{value-answers}
+use Rattle.ris_history.proofs.histories.History.value_at.Goals as goal
+
+pub returns-in-Some-clause-answers : goal.returns-in-Some-clause-answers
+returns-in-Some-clause-answers c =
+    let h = c.args.self.now in
+    let held = (shown c.args.self.now.table c.args.v c.args.a c.args.x).value in
+    let refused = ap (λ (o : Option ReadRefusal). unless o held) (sym c.refusal.ensures ∙ c.in-Some.is) in
+    subst (λ (r : Result Value ReadRefusal). IsAnswer h (question.Value c.args.v c.args.a c.args.x) (value_reply h.table.front c.args.v r)) refused
+    (value-answers h c.args.v c.args.a c.args.x c.requires)
+
+pub returns-in-None-clause-answers : goal.returns-in-None-clause-answers
+returns-in-None-clause-answers c =
+    let h = c.args.self.now in
+    let held = (shown c.args.self.now.table c.args.v c.args.a c.args.x).value in
+    let read = c.latest.ensures.value ∙ ap (λ (k : HistoryView). (shown k.table c.args.v c.args.a c.args.x).value) c.self.view_is in
+    let given = ap (λ (o : Option ReadRefusal). unless o held) (sym c.refusal.ensures ∙ c.in-None.is) ∙ ap (λ (y : Value). let r : Result Value ReadRefusal = Ok y in r) (sym read) in
+    subst (λ (r : Result Value ReadRefusal). IsAnswer h (question.Value c.args.v c.args.a c.args.x) (value_reply h.table.front c.args.v r)) given
+    (value-answers h c.args.v c.args.a c.args.x c.requires)

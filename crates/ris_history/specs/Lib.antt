@@ -1,0 +1,7 @@
+pub mod Applied
+pub mod Chains
+pub mod HistoryView
+pub mod Packed
+pub mod Reads
+pub mod Sound
+pub mod Standing

@@ -1,0 +1,12 @@
+pub mod AddLemmas
+pub mod CrossLemmas
+pub mod MarkLemmas
+pub mod OfferLemmas
+pub mod PullLemmas
+pub mod PushLemmas
+pub mod RepairLemmas
+pub mod RiseLemmas
+pub mod RowLemmas
+pub mod SortLemmas
+pub mod TableLemmas
+pub mod TakeLemmas

@@ -1,0 +1,15 @@
+//! New values and parents after a request, from the vertices that fall: a pull from the vertices that stand, then a push,
+//! best first, as in Dijkstra's algorithm. Every neighbour that is handed out is counted.
+#![tactic(auto)]
+
+mod adding;
+mod deltas;
+mod frontiers;
+mod marking;
+mod pulling;
+mod pushing;
+mod queues;
+mod repairs;
+mod taking;
+
+pub use repairs::{from_scratch, repair};

@@ -1,0 +1,6 @@
+pub mod JudgeLemmas
+pub mod ListingLemmas
+pub mod NetLemmas
+pub mod OverlayLemmas
+pub mod StepLemmas
+pub mod TouchLemmas

@@ -1,0 +1,6 @@
+pub mod Faults
+pub mod Judging
+pub mod Listing
+pub mod Overlays
+pub mod Refusals
+pub mod Touching
