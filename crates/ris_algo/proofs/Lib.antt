@@ -8,9 +8,11 @@ pub mod Meaning
 pub mod Offers
 pub mod Parents
 pub mod ReachExists
+pub mod RecordLemmas
 pub mod Rooted
 pub mod SafeReach
 pub mod SafeUpdates
+pub mod SameForests
 pub mod Small
 pub mod Spread
 pub mod Standing

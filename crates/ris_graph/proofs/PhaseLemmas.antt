@@ -98,7 +98,7 @@ module _ (g : GraphView) (js : List (List StripeJob)) (l : LooseView) (work : Is
   row-below m (DelV x) home ends = tt
   row-below m (SetW u v w w2) home ends = tt
 
-  fresh-stripe : (m : ℕ) → m < 64 → IsFresh m (fresh (get_or g.stripes m []) (get_or js m []))
+  pub fresh-stripe : (m : ℕ) → m < 64 → IsFresh m (fresh (get_or g.stripes m []) (get_or js m []))
   fresh-stripe m lt =
       let jobs : List StripeJob = get_or js m [] in
       let rows : List RowView = get_or g.stripes m [] in

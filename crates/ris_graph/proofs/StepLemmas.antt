@@ -122,7 +122,7 @@ rows_after-copies m rows (AddV x) t ascending home at = refl
 rows_after-copies m rows (DelV x) t ascending home at = absurd (both_ways false refl home.kind)
 rows_after-copies m rows (SetW u v w w2) t ascending home at = absurd (both_ways false refl home.kind)
 
-rows_after-ascending : (m : ℕ) (rows : List RowView) (update : Update) → ((k : ℕ) → IsAscending (row_at rows k).items) → IsHome m (length rows) update
+pub rows_after-ascending : (m : ℕ) (rows : List RowView) (update : Update) → ((k : ℕ) → IsAscending (row_at rows k).items) → IsHome m (length rows) update
     → (k : ℕ) → IsAscending (row_at (rows_after rows update) k).items
 rows_after-ascending m rows (AddE u v w) ascending home = more-ascending rows (u / 64) v w home.row ascending
 rows_after-ascending m rows (DelE u v w) ascending home = fewer-ascending rows (u / 64) v w home.row ascending

@@ -111,7 +111,7 @@ copies-stripe t k (d ∷ log) n at = go (of_stripe k d) refl (λ m. copies-strip
     go true e more = more (by_decision t d n)
     go false e more = rw (by_other t k d n at e) (more n)
 
-copies-more : (t : Triple) (log : List Decided) (d : Decided) (n : ℕ) → copies_after t n (log ++ d ∷ []) ≡ by_decision t d (copies_after t n log)
+pub copies-more : (t : Triple) (log : List Decided) (d : Decided) (n : ℕ) → copies_after t n (log ++ d ∷ []) ≡ by_decision t d (copies_after t n log)
 unfolding copies_after
 copies-more t [] d n = refl
 copies-more t (c ∷ log) d n = copies-more t log d (by_decision t c n)

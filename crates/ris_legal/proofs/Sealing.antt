@@ -106,7 +106,7 @@ kept-refused setup published b e r k next is =
 pub with_seat-here : (seats : ℕ → Seat) (s : ℕ) (x : Seat) → with_seat seats s x s ≡ x
 with_seat-here seats s x = cond-true {A = Seat} (s == s) x (seats s) (eq-eqb s s refl)
 
-with_seat-other : (seats : ℕ → Seat) (s : ℕ) (x : Seat) (n : ℕ) → n ≢ s → with_seat seats s x n ≡ seats n
+pub with_seat-other : (seats : ℕ → Seat) (s : ℕ) (x : Seat) (n : ℕ) → n ≢ s → with_seat seats s x n ≡ seats n
 with_seat-other seats s x n other = cond-false {A = Seat} (n == s) x (seats n) (ne_eqb n s other)
 
 -- a decision leaves its session's next command in the queue
@@ -254,7 +254,7 @@ kept-sealed setup published g forests before (d ∷ order) b k right waits singl
 -- Each decision where it stands
 
 -- what becomes of a candidate is what its verdict says
-follows-says : (g h : PlainGraph) (specs : List Spec) (forests : List Forest) (before : List Decided) (d : Decided) (part : Update) (v : Verdict)
+pub follows-says : (g h : PlainGraph) (specs : List Spec) (forests : List Forest) (before : List Decided) (d : Decided) (part : Update) (v : Verdict)
     → d.entry.parts ≡ part ∷ [] → v ≢ verdict.Bounced → Follows g specs forests before h d part v → SaysVerdict h specs forests d.entry.parts v
 follows-says g h specs forests before d part verdict.Applied parts ruled f = (
   ap (refusal_of h) parts ∙ refusal_of-one h (changed h part) part f.1,

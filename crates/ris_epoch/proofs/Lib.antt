@@ -1,0 +1,15 @@
+pub mod AccountSteps
+pub mod Beginning
+pub mod CellRuns
+pub mod Deciding
+pub mod RightRecords
+pub mod SealRuns
+pub mod Seatings
+pub mod Splits
+pub mod Stages
+pub mod Stands
+pub mod StripeMerges
+pub mod TailRuns
+pub mod TurnEpochs
+pub mod TurnRight
+pub mod TurnVisits

@@ -1,0 +1,4 @@
+pub mod CellLemmas
+pub mod DecideLemmas
+pub mod FollowLemmas
+pub mod OrderLemmas
