@@ -274,7 +274,7 @@ applied-before m old s k j fresh under lt waiting same =
     let other = under.noted k lt waiting i d less in
     told-other s.jobs k j x other (λ e. other (sym same ∙ e))))
 
-applied-noted : (m : ℕ) (old s : StripeView) (k : ℕ) (j : StripeJob) → IsFresh m old → IsUnder m old s → k < length s.jobs → waits (job_at s k) ≡ true
+pub applied-noted : (m : ℕ) (old s : StripeView) (k : ℕ) (j : StripeJob) → IsFresh m old → IsUnder m old s → k < length s.jobs → waits (job_at s k) ≡ true
     → j.session ≡ (job_at s k).session → flat_map (told (set s.jobs k j)) (s.log ++ (job_at s k).session ∷ []) ≡ applied_of s ++ (if is_applied j then j.update ∷ [] else [])
 applied-noted m old s k j fresh under lt waiting same =
     let new = set s.jobs k j in
@@ -385,7 +385,7 @@ IsUnder-edited m old s k fresh under can =
 declines-applied : (j : StripeJob) → (j.verdict ≡ NoEdge) ⊎ (j.verdict ≡ Bounced) → is_applied j ≡ false
 declines-applied j declines = elim declines [ inl refused ↦ rw refused refl | inr bounced ↦ rw bounced refl ]
 
-log-declined : (m : ℕ) (old s : StripeView) (k : ℕ) (verdict : Verdict) → IsFresh m old → IsUnder m old s → CanDecline s k verdict
+pub log-declined : (m : ℕ) (old s : StripeView) (k : ℕ) (verdict : Verdict) → IsFresh m old → IsUnder m old s → CanDecline s k verdict
     → (applied_of (declined s k verdict) ≡ applied_of s) × (((declined s k verdict).log ≡ s.log) ⊎ ((declined s k verdict).log ≡ s.log ++ (job_at s k).session ∷ []))
 log-declined m old s k verdict fresh under can =
     let j : StripeJob = record (job_at s k) { verdict = verdict } in

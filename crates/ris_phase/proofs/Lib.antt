@@ -1,4 +1,5 @@
 pub mod CellLemmas
 pub mod DecideLemmas
 pub mod FollowLemmas
+pub mod MergeLemmas
 pub mod OrderLemmas

@@ -116,6 +116,11 @@ logs p forests seq log (j ∷ jobs) = logs p forests seq (logged log (decision s
 abbrev pub IsOrder : (ℕ → List Decided) → List Decided → Type 0
 IsOrder log order = (k : ℕ) → filter (λ d. stripe_of d.entry.parts == k) order ≡ log k
 
+-- the updates of the applied ones of decisions, in their order
+unfoldable pub applied_updates : List Decided → List Update
+applied_updates [] = []
+applied_updates (d ∷ order) = (if is_applied d then d.entry.parts else []) ++ applied_updates order
+
 -- the graph after the applied ones of decisions, one request after another
 unfoldable pub applied_each : PlainGraph → List Decided → PlainGraph
 applied_each p [] = p

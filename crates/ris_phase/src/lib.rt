@@ -9,5 +9,5 @@ mod phases;
 pub use candidates::is_candidate;
 pub use gates::HoldGate;
 pub use phases::apply;
-pub use ris_base::Verdict;
+pub use ris_base::{FreeGate, Gate, Verdict};
 pub use ris_graph::{Jobs, Loose, Stripe};

@@ -10,10 +10,10 @@ ghost use Rattle.ris_base.specs.declared.graphs.PlainGraph.{PlainGraph};
 ghost use Rattle.ris_legal.specs.Held.{SaysVerdict};
 ghost use Rattle.ris_graph.specs.GraphView.{GraphView, IsOf};
 ghost use Rattle.ris_graph.specs.Jobs.{EachJob};
-ghost use Rattle.ris_graph.specs.Phase.{IsWorkOf, stripe_at};
+ghost use Rattle.ris_graph.specs.Phase.{IsMerge, IsWorkOf, applied_of, entered_each, stripe_at};
 ghost use Rattle.ris_graph.specs.StripeView.{StripeView, job_at};
 ghost use Rattle.ris_graph.specs.declared.stripes.StripeJob.{StripeJob};
-ghost use Rattle.ris_phase.specs.Cells.{IsFresh, IsLoosenedOf, IsOpen, IsOrder, IsUndecided, all_phased, applied_each, cells, decided_job, logs, phased, verdict_in};
+ghost use Rattle.ris_phase.specs.Cells.{IsFresh, IsLoosenedOf, IsOpen, IsOrder, IsUndecided, all_phased, applied_each, applied_updates, cells, decided_job, logs, phased, verdict_in};
 
 use ris_base::{Gate, Meter, Triple, Update, Verdict};
 use ris_graph::{Loose, Stripe};
@@ -25,14 +25,15 @@ use std::thread::Threads;
 const STRIPES: usize = 64;
 
 /// Decides all jobs of a graph with jobs, in 1 to 64 workers, where none is decided yet. In each stripe the jobs are
-/// taken in the order in which they were added. An `AddV` and an `AddE` are applied. A `DelE` gets `NoEdge` where its
+/// taken in their order. An `AddV` and an `AddE` are applied. A `DelE` gets `NoEdge` where its
 /// triple has no copy after the stripe's earlier jobs, `Bounced` where it would take the last one and a forest uses the
 /// triple, and else is applied.
 ///
-/// With `c = 64.div_ceil(workers)` the job number j of the phase has the stripes from `j * c` on, at most c of them. It
-/// enters the gate once with j, also where its stripes have no jobs. Where no thread can be made, and with one worker,
-/// the jobs run one after another. A decision costs a binary search and the moves of an insert or a removal, a stripe
-/// without jobs a test. It takes no memory.
+/// With `c = 64.div_ceil(workers)` the job number j of the phase has the stripes from `j * c` on, at most c of them.
+/// There are `64.div_ceil(c)` jobs, which may be fewer than the workers: 32 for 48 workers. Each enters the gate once, with
+/// its number, also where its stripes have no jobs. Where no thread can be made, and with one worker, they run one after
+/// another. A decision costs a binary search and the moves of an insert or a removal, a stripe without jobs a test. It
+/// takes no memory.
 pub fn apply<R: Threads + Sync, J: Judge + Sync, G: Gate, M: Meter>(
     rt: &R,
     loose: &mut Loose<M>,
@@ -49,14 +50,21 @@ pub fn apply<R: Threads + Sync, J: Judge + Sync, G: Gate, M: Meter>(
         → IsLoosenedOf g js loose.old → IsOf g p → m < 64
         → ((stripe_at loose.new m).jobs ≡ cells p (J.forests judge.now) seq [] (slice_index_or js m []))
         × ((stripe_at loose.new m).log ≡ map (λ d. d.entry.session) (logs p (J.forests judge.now) seq [] (slice_index_or js m []))) }
+    ensures applied { (g : GraphView) (js : List (List StripeJob)) (p : PlainGraph) (seq : ℕ → ℕ) (m : ℕ)
+        → IsLoosenedOf g js loose.old → IsOf g p → m < 64
+        → applied_of (stripe_at loose.new m) ≡ applied_updates (logs p (J.forests judge.now) seq [] (slice_index_or js m [])) }
 
-    // In every order that keeps the order of each stripe, each decision is right where it stands.
+    // In every order that keeps the order of each stripe, each decision is right where it stands, and the applied updates are
+    // those by which settling goes.
     ensures merges { (g : GraphView) (js : List (List StripeJob)) (p : PlainGraph) (seq : ℕ → ℕ) (order : List Decided)
         → IsLoosenedOf g js loose.old → IsOf g p → AreForests p (J.specs judge.now) (J.forests judge.now)
         → EachJob (λ j. is_candidate p (J.specs judge.now) (J.forests judge.now) (j.update ∷ []) ≡ true) js
         → IsOrder (λ k. logs p (J.forests judge.now) seq [] (slice_index_or js k [])) order
         → (i : ℕ) (d : Decided) → slice_get order i ≡ Some d
         → SaysVerdict (applied_each p (take i order)) (J.specs judge.now) (J.forests judge.now) d.entry.parts d.verdict }
+    ensures settles { (g : GraphView) (js : List (List StripeJob)) (p : PlainGraph) (seq : ℕ → ℕ) (order : List Decided)
+        → IsLoosenedOf g js loose.old → IsOf g p → IsOrder (λ k. logs p (J.forests judge.now) seq [] (slice_index_or js k [])) order
+        → IsMerge loose.new (applied_updates order) × (applied_each p order ≡ entered_each p (applied_updates order)) }
 {
     let share = STRIPES.div_ceil(workers as usize);
     thread::for_each_chunk_mut(

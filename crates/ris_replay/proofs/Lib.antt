@@ -8,3 +8,4 @@ mod ReportFacts
 mod RunFacts
 mod StandFacts
 mod ValueFacts
+mod VisitFacts

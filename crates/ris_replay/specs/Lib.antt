@@ -3,3 +3,4 @@ pub mod Playing
 pub mod Program
 pub mod Reports
 pub mod Standing
+pub mod Visits

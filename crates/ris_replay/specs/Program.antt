@@ -1,15 +1,18 @@
 -- What the program makes of its words and its input today.
-use Rattle.std.specs.Prelude.{◌≡◌, ℕ, false, List, [], ◌∷◌, length, Result, codes}
+use Rattle.std.specs.Prelude.{◌≡◌, ℕ, ◌≤◌, false, List, [], ◌∷◌, length, Result, codes}
+use Rattle.std.specs.List.{list_any}
 use Rattle.ris_base.specs.CommandLine.{IsAnalysisList}
-use Rattle.ris_base.specs.Script.{Bytes, Fault}
+use Rattle.ris_base.specs.Replies.{wants_memory}
+use Rattle.ris_base.specs.Script.{Bytes, Fault, opening_of}
 use Rattle.ris_base.specs.Status.{HasCauses, HasOutput, MakesNoVisit, Program, Reports, Stream, specs_of}
-use Rattle.ris_base.specs.Transcript.{Transcript}
+use Rattle.ris_base.specs.Transcript.{Transcript, lines_named}
 use Rattle.ris_base.specs.declared.analyses.Spec.{Spec}
 use Rattle.ris_base.specs.declared.jobs.Job.{Job}
 use Rattle.ris_base.specs.declared.jobs.Job.TheVariants.{Replay}
 use Rattle.ris_base.specs.declared.scripts.Script.{Script}
 use Rattle.ris_base.specs.declared.statuses.Status.{Status}
 use Rattle.ris_script.specs.Bytes.{script_of}
+use Rattle.ris_replay.specs.Visits.{nets_part}
 
 -- the words are `replay --analyses` and a list of these analyses
 pub record SaysAnalyses (words : List Bytes) (specs : List Spec) : Type 0 where
@@ -25,9 +28,10 @@ Takes words job = (specs : List Spec) × (job ≡ Replay false 1 specs) × SaysA
 abbrev pub script_for : Job → Bytes → Result Script Fault
 script_for job bytes = script_of (length (specs_of job)) bytes
 
--- so far no run makes a visit
+-- so far visits are made for nets alone: where no reply wants memory they are at most the nets' part of the transcript's lines
 abbrev pub MayVisit : Script → List Spec → Transcript → ℕ → Type 0
-MayVisit script specs t visits = visits ≡ 0
+MayVisit script specs t visits =
+    list_any (list_any wants_memory) t.replies ≡ false → visits ≤ nets_part (opening_of script) (lines_named script.commands t.journal)
 
 -- the program
 abbrev pub program : Program

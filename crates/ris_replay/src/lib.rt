@@ -3,6 +3,8 @@
 
 mod endings;
 mod jobs;
+#[cfg(test)]
+mod net_tests;
 mod places;
 mod plays;
 mod reports;

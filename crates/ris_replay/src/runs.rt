@@ -1,8 +1,8 @@
 ghost use Rattle.std.specs.Prelude.{◌≡◌, ◌-◌, ◌≤◌, ℕ, false, length, IfOk, Err, Ok};
 ghost use Rattle.ris_base.specs.Status.{Grew, IsTextOf, IsUntouched, status_line, stream_of};
 ghost use Rattle.ris_base.specs.declared.jobs.Job.TheVariants as job;
-ghost use Rattle.ris_base.specs.declared.scripts.Script.{Script};
-ghost use Rattle.ris_script.specs.Bytes.{script_of};
+ghost use Rattle.ris_base.specs.declared.scripts.Script.{Script as ReadScript};
+ghost use Rattle.ris_script.specs.Bytes.{Reads, script_of};
 ghost use Rattle.ris_script.specs.declared.faults.ScriptError.TheVariants as error;
 ghost use Rattle.ris_replay.specs.Endings.{Ends, fault_of, status_of};
 ghost use Rattle.ris_replay.specs.Program.{IsRun, program};
@@ -12,7 +12,7 @@ use crate::endings::Ending;
 use crate::jobs::job_analyses;
 use crate::plays::play;
 use crate::put_fault;
-use ris_base::{Gate, Meter, SCRIPT_LIMIT, Specs, Status, Text, Words};
+use ris_base::{Bytes, Gate, Meter, SCRIPT_LIMIT, Script, Specs, Status, Text, Words};
 use ris_io::{ReadError, Sink, Source, put_all, read_all};
 use ris_script::{ScriptError, read_script};
 use ris_text::transcript_text;
@@ -48,7 +48,8 @@ pub fn run<R: Threads + Wait + Sync, I: Source, O: Sink, F: Sink, M: Meter, G: G
 /// which is taken before the first byte is written. The faults grow by the line of the status, or by a prefix of it where
 /// their own count of faults rose; that changes no status.
 ///
-/// Each change takes time with the size of the graph, and each read of a value rounds over all vertices.
+/// Each change takes time with the size of the graph, and each read of a value rounds over all vertices. The meter ticks at
+/// most once for each neighbour that a dropped vertex has in its two rows.
 pub fn run_inline<R: Threads + Sync, I: Source, O: Sink, F: Sink, M: Meter, G: Gate>(
     rt: &R,
     alloc: Global,
@@ -63,20 +64,22 @@ pub fn run_inline<R: Threads + Sync, I: Source, O: Sink, F: Sink, M: Meter, G: G
         (stream_of F.held F.faults faults.old faults.new) (M.ticks meter.new - M.ticks meter.old) result }
     ensures ticks { M.ticks meter.old ≤ M.ticks meter.new }
 {
-    let ending = answer(rt, alloc, words, input, out);
+    let ending = answer(rt, alloc, words, input, out, meter);
     report(ending, faults)
 }
 
 /// Does what the words say, but for the report.
-fn answer<R: Threads + Sync, I: Source, O: Sink>(
+fn answer<R: Threads + Sync, I: Source, O: Sink, M: Meter>(
     rt: &R,
     alloc: Global,
     words: &Words,
     input: &mut I,
     out: &mut O,
+    meter: &mut M,
 ) -> Ending
-    ensures { Ends program words.now (stream_of I.left I.faults input.old input.new)
-        (stream_of O.held O.faults out.old out.new) 0 result }
+    ensures ends { Ends program words.now (stream_of I.left I.faults input.old input.new)
+        (stream_of O.held O.faults out.old out.new) (M.ticks meter.new - M.ticks meter.old) result }
+    ensures ticks { M.ticks meter.old ≤ M.ticks meter.new }
 {
     let specs = match job_analyses(alloc, words) {
         Ok(specs) => specs,
@@ -84,12 +87,12 @@ fn answer<R: Threads + Sync, I: Source, O: Sink>(
         Err(WordsError::NoMemory) => return Ending::NoMemory,
     };
     let bytes = match read_all(alloc, input, SCRIPT_LIMIT) {
-        Ok(bytes) => bytes.into_vec(),
+        Ok(bytes) => bytes,
         Err(ReadError::ReadFault) => return Ending::ReadFault,
         Err(ReadError::TooLong) => return Ending::TooLong,
         Err(ReadError::NoMemory) => return Ending::NoMemory,
     };
-    match transcript(rt, alloc, &specs, &bytes) {
+    match transcript(rt, alloc, &specs, bytes, meter) {
         Ok(text) => match put_all(out, &text.into_vec()) {
             Ok(()) => Ending::Done,
             Err(_) => Ending::WriteFault,
@@ -119,21 +122,34 @@ fn report<F: Sink>(ending: Ending, faults: &mut F) -> Status
     status
 }
 
-/// The text of a transcript of the script that bytes spell.
-fn transcript<R: Threads + Sync>(
+/// The text of a transcript of the script that bytes spell. Its last number is the rise of the meter. The bytes are given
+/// up once the script is read.
+fn transcript<R: Threads + Sync, M: Meter>(
     rt: &R,
     alloc: Global,
     specs: &Specs,
-    bytes: &[u8],
+    bytes: Bytes,
+    meter: &mut M,
 ) -> Result<Text, ScriptError>
     requires { length specs.now ≤ 4 }
-    ensures text { IfOk result (λ text. (script : Script) × (script_of (length specs.now) bytes.now ≡ Ok script)
-        × IsTextOf program (job.Replay false 1 specs.now) script 0 text) }
+    ensures text { IfOk result (λ text. (script : ReadScript) × (script_of (length specs.now) bytes ≡ Ok script)
+        × IsTextOf program (job.Replay false 1 specs.now) script (M.ticks meter.new - M.ticks meter.old) text) }
     ensures fault { (number : ℕ) (cause : _) → result ≡ Err (error.Fault number cause)
-        → script_of (length specs.now) bytes.now ≡ Err (reported_cause number cause) }
+        → script_of (length specs.now) bytes ≡ Err (reported_cause number cause) }
+    ensures still { (number : ℕ) (cause : _) → result ≡ Err (error.Fault number cause) → M.ticks meter.new ≡ M.ticks meter.old }
+    ensures ticks { M.ticks meter.old ≤ M.ticks meter.new }
 {
-    let script = read_script(alloc, bytes, specs.len() as u32)?;
-    let played = play(rt, alloc, script, specs)?;
-    let text = transcript_text(alloc, &played.logs, &played.lines, 0)?;
+    let script = script_in(alloc, bytes, specs.len() as u32)?;
+    let before = meter.total();
+    let played = play(rt, alloc, script, specs, meter)?;
+    let visits = meter.total() - before;
+    let text = transcript_text(alloc, &played.logs, &played.lines, visits)?;
     Ok(text)
+}
+
+/// The script that bytes spell, or its first fault. The bytes are given up.
+fn script_in(alloc: Global, bytes: Bytes, analyses: u32) -> Result<Script, ScriptError>
+    ensures { Reads result (script_of analyses bytes) }
+{
+    read_script(alloc, &bytes.into_vec(), analyses)
 }

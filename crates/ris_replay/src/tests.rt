@@ -8,8 +8,8 @@ use std::thread::Threads;
 
 /// Counts visits for a test.
 #[derive(Drop)]
-struct Count {
-    ticks: u64,
+pub(crate) struct Count {
+    pub(crate) ticks: u64,
 }
 
 impl Meter for Count {
@@ -43,6 +43,7 @@ struct Wanted<'a> {
     status: Status,
     out: &'a str,
     faults: &'a str,
+    visits: u64,
 }
 
 fn calls(alloc: Global, number: u64) -> Result<Calls, Fail> {
@@ -52,6 +53,9 @@ fn calls(alloc: Global, number: u64) -> Result<Calls, Fail> {
     }
     Ok(calls)
 }
+
+/// The visits that the meter counted before the run.
+const EARLIER: u64 = 5;
 
 /// Runs what is given, and compares it with what is wanted.
 fn expect<R: Threads + Sync + AllocGlobal + Abort>(
@@ -75,7 +79,7 @@ fn expect<R: Threads + Sync + AllocGlobal + Abort>(
         calls(rt.alloc(), given.write_fails)?,
     );
     let mut faults = MemSink::new(rt.alloc(), 4, calls(rt.alloc(), given.report_fails)?);
-    let mut meter = Count { ticks: 0 };
+    let mut meter = Count { ticks: EARLIER };
     let status = run_inline(
         rt,
         rt.alloc(),
@@ -89,7 +93,7 @@ fn expect<R: Threads + Sync + AllocGlobal + Abort>(
     assert_eq!(rt; status, wanted.status);
     assert_eq!(rt; out.held(), wanted.out.as_bytes());
     assert_eq!(rt; faults.held(), wanted.faults.as_bytes());
-    assert_eq!(rt; meter.total(), 0);
+    assert_eq!(rt; meter.total().saturating_sub(EARLIER), wanted.visits);
     Ok(())
 }
 
@@ -103,13 +107,32 @@ const CHANGING: &[u8] =
     b"risgraph,2,4,1\nbase,0,1,7\n0,begin\n0,adde,1,2,3\n0,setw,0,1,7,9\n0,commit\n0,value,last,1,2\n0,value,@0,0,2\n0,delv,1\n0,dele,0,1,9\n0,adde,0,9,1\n0,value,last,2,1\n0,value,@3,0,0\n0,value,last,0,3\n";
 
 const CHANGING_TEXT: &str =
-    "0,0,place,1\n0,1,value,1,1,3\n0,2,value,1,0,unreached\n0,3,place,2\n0,4,novertex,2,1,1\n0,5,novertex,2,1,9\n0,6,value,2,2,absent\n0,7,notyet,2\n0,8,value,2,2,unreached\njournal,entry,1,0,0\njournal,entry,2,0,3\nsummary,2,0,3,0\n";
+    "0,0,place,1\n0,1,value,1,1,3\n0,2,value,1,0,unreached\n0,3,place,2\n0,4,novertex,2,1,1\n0,5,novertex,2,1,9\n0,6,value,2,2,absent\n0,7,notyet,2\n0,8,value,2,2,unreached\njournal,entry,1,0,0\njournal,entry,2,0,3\nsummary,2,0,3,2\n";
 
-fn done(out: &'static str) -> Wanted<'static> {
+const DROPPING: &[u8] =
+    b"risgraph,1,3,1\nbase,0,1,1\nbase,1,2,1\n0,value,@0,0,2\n0,delv,1\n0,value,last,0,2\n0,adde,0,1,1\n0,addv,1\n0,value,@3,0,1\n0,dele,0,2,4\n";
+
+const DROPPING_TEXT: &str =
+    "0,0,value,0,0,2\n0,1,place,1\n0,2,value,1,1,unreached\n0,3,novertex,1,1,1\n0,4,place,2\n0,5,notyet,2\n0,6,noedge,2,1\njournal,entry,1,0,1\njournal,entry,2,0,4\nsummary,2,0,3,2\n";
+
+const TWO_PARTS: &[u8] =
+    b"risgraph,1,3,1\n0,begin\n0,adde,0,1,1\n0,adde,1,2,1\n0,commit\n0,begin\n0,dele,0,1,1\n0,adde,0,9,1\n0,commit\n0,value,last,0,2\n";
+
+const TWO_PARTS_TEXT: &str =
+    "0,0,place,1\n0,1,novertex,1,2,9\n0,2,value,1,1,2\njournal,entry,1,0,0\nsummary,1,0,1,0\n";
+
+const WEIGHTS: &[u8] =
+    b"risgraph,2,3,1\nbase,0,1,4\nbase,1,2,4\n0,setw,0,1,4,9\n0,value,last,0,2\n0,value,last,1,2\n0,setw,0,1,4,5\n0,setw,0,1,9,68719476736\n0,adde,0,2,68719476735\n0,value,last,1,2\n0,value,last,1,0\n";
+
+const WEIGHTS_TEXT: &str =
+    "0,0,place,1\n0,1,value,1,1,13\n0,2,value,1,1,4\n0,3,noedge,1,1\n0,4,limit,1,1,68719476736\n0,5,place,2\n0,6,value,2,2,68719476735\n0,7,value,2,2,68719476736\njournal,entry,1,0,0\njournal,entry,2,0,5\nsummary,2,0,2,0\n";
+
+fn done(out: &'static str, visits: u64) -> Wanted<'static> {
     Wanted {
         status: Status::Ok,
         out,
         faults: "",
+        visits,
     }
 }
 
@@ -118,18 +141,24 @@ fn refused(status: Status, faults: &'static str) -> Wanted<'static> {
         status,
         out: "",
         faults,
+        visits: 0,
     }
 }
 
 #[test]
 fn scripts_give_their_transcripts(rt: HostRuntime) -> Result<(), Fail> {
-    expect(&rt, over(WORDS, FIRST), done(FIRST_TEXT))?;
+    expect(&rt, over(WORDS, FIRST), done(FIRST_TEXT, 0))?;
     expect(
         &rt,
         over(WORDS, b"risgraph,1,3,1"),
-        done("summary,0,0,0,0\n"),
+        done("summary,0,0,0,0\n", 0),
     )?;
-    expect(&rt, over(WORDS, CHANGING), done(CHANGING_TEXT))
+    expect(&rt, over(WORDS, CHANGING), done(CHANGING_TEXT, 2))?;
+    let depth = "replay --analyses bfs:0";
+    expect(&rt, over(depth, DROPPING), done(DROPPING_TEXT, 2))?;
+    expect(&rt, over(depth, TWO_PARTS), done(TWO_PARTS_TEXT, 0))?;
+    let weighted = "replay --analyses sssp:0,sswp:0";
+    expect(&rt, over(weighted, WEIGHTS), done(WEIGHTS_TEXT, 0))
 }
 
 #[test]
@@ -192,6 +221,7 @@ fn a_stream_that_fails_ends_the_run(rt: HostRuntime) -> Result<(), Fail> {
             status: Status::WriteFault,
             out: "0,0,plac",
             faults: line,
+            visits: 0,
         };
         expect(&rt, writing, wanted)?;
     }

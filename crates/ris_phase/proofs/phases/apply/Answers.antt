@@ -3,10 +3,11 @@ use Rattle.std.specs.List.{refill}
 use Rattle.std.proofs.Math.Seq.{take-length}
 use Rattle.std.proofs.Math.ListN.{drop_of_length-le}
 use Rattle.std.proofs.lemmas.List.{append-nil, get_or-map, length-map, same_lists}
-use Rattle.ris_graph.specs.Phase.{IsWorkOf, LooseView, stripe_at}
+use Rattle.ris_graph.specs.Phase.{IsMerge, IsWorkOf, LooseView, applied_of, stripe_at}
 use Rattle.ris_graph.specs.StripeView.{StripeView}
-use Rattle.ris_phase.specs.Cells.{IsUndecided, cells, logs, phased}
+use Rattle.ris_phase.specs.Cells.{all_phased, applied_updates, IsUndecided, cells, logs, phased}
 use Rattle.ris_phase.proofs.CellLemmas.{all-open, cells-phased, work-phased}
+use Rattle.ris_phase.proofs.MergeLemmas.{applied_each-updates, merge-order, single-order}
 use Rattle.ris_phase.proofs.OrderLemmas.{says-order}
 use Rattle.ris_phase.proofs.phases.apply.Goals as goal
 
@@ -53,9 +54,25 @@ returns-clause-work g c g' js of =
 pub returns-clause-cells : goal.returns-clause-cells
 returns-clause-cells g c g' js p seq m of is lt =
     let forests = g.J.Judge.forests c.args.judge.now in
+    let made = cells-phased g' js c.args.loose.now of p is forests seq m lt in
     subst
     (λ (l : LooseView). ((stripe_at l m).jobs ≡ cells p forests seq [] (get_or js m [])) × ((stripe_at l m).log ≡ map (λ d. d.entry.session) (logs p forests seq [] (get_or js m []))))
-    (sym (returns-clause-stripes g c)) (cells-phased g' js c.args.loose.now of p is forests seq m lt)
+    (sym (returns-clause-stripes g c)) (made.jobs_are, made.sessions)
+
+pub returns-clause-applied : goal.returns-clause-applied
+returns-clause-applied g c g' js p seq m of is lt =
+    let forests = g.J.Judge.forests c.args.judge.now in
+    subst (λ (l : LooseView). applied_of (stripe_at l m) ≡ applied_updates (logs p forests seq [] (get_or js m []))) (sym (returns-clause-stripes g c))
+    (cells-phased g' js c.args.loose.now of p is forests seq m lt).applied
+
+pub returns-clause-settles : goal.returns-clause-settles
+returns-clause-settles g c g' js p seq order of is keeps =
+    let forests = g.J.Judge.forests c.args.judge.now in
+    let l = c.args.loose.now in (
+      subst (λ (x : LooseView). IsMerge x (applied_updates order)) (sym (returns-clause-stripes g c))
+          (merge-order (all_phased forests l) p forests seq js order (λ m lt. (cells-phased g' js l of p is forests seq m lt).applied) keeps),
+      applied_each-updates p order (single-order p forests seq js order keeps),
+    )
 
 pub returns-clause-merges : goal.returns-clause-merges
 returns-clause-merges g c g' js p seq order of is right candidates keeps =

@@ -1,6 +1,5 @@
 use Rattle.ris_replay.proofs.RunFacts.{run-right}
 use Rattle.ris_replay.proofs.runs.run_inline.Goals as goal
 
--- src/runs.rt:52:1
 pub returns-clause-run : goal.returns-clause-run
-returns-clause-run g c = run-right _ _ _ _ _ c.answer-ending.result _ c.answer-ending.ensures c.report.ensures.status c.report.ensures.line c.report.ensures.ok
+returns-clause-run g c = run-right _ _ _ _ _ c.answer-ending.result _ c.answer-ending.ensures.ends c.report.ensures.status c.report.ensures.line c.report.ensures.ok
