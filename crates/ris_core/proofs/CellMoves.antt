@@ -1,7 +1,7 @@
 -- The move of a cell.
-use Rattle.std.proofs.Common.{◌≡◌, ℕ, zero, suc, ◌==◌, if◌then◌else◌, Bool, true, false, List, [], ◌∷◌, ◌++◌, length, map, Option, Some, None, unwrap_or, refl, sym, ap, ◌∙◌, cond, eq-eqb}
+use Rattle.std.proofs.Common.{◌≡◌, ℕ, zero, suc, ◌==◌, if◌then◌else◌, Bool, true, false, List, [], ◌∷◌, ◌++◌, length, map, Option, Some, None, unwrap_or, refl, sym, subst, ap, ◌∙◌, cond, eq-eqb}
 use Rattle.std.specs.List.{slice_get, slice_set}
-use Rattle.std.specs.Option.{option_and_then}
+use Rattle.std.specs.Option.{option_and_then, option_map_or}
 use Rattle.std.proofs.lemmas.Bool.{true≢false, eqb-true, eqb-false, ne_eqb}
 use Rattle.std.proofs.lemmas.List.{append-nil}
 use Rattle.std.proofs.lemmas.List.Elements.{filter-append}
@@ -16,7 +16,7 @@ use Rattle.ris_base.specs.declared.events.Verdict.TheVariants as verdict
 use Rattle.ris_base.specs.declared.forests.ForestRow.{ForestRow}
 use Rattle.ris_base.specs.declared.lines.Entry.{Entry}
 use Rattle.ris_base.specs.declared.updates.Update.{Update}
-use Rattle.ris_core.specs.Moves.{cell_as, celled, decided_as, forests_in, graph_in, is_phase, is_stand, with_seat_at}
+use Rattle.ris_core.specs.Moves.{celled, celled_with, decided_with, entry_as, entry_for, forests_in, graph_in, is_phase, is_stand, next_at, stood_seats, with_seat_at}
 use Rattle.ris_core.specs.Stands.{Listing, logs_of, seats_of, state_of}
 use Rattle.ris_core.proofs.StateLemmas.{IsMove, phase-is, phase-true, same_function, seat-absent, seat-there, seats-set, set-length, stand-is, stand-true, within-there}
 
@@ -41,6 +41,90 @@ logs-push log k e v is = same_function _ _ (λ n. go n (n == k) refl)
     go : (n : ℕ) (b : Bool) → (n == k) ≡ b → logs_of (log ++ d ∷ []) n ≡ (if b then logs_of log n ++ d ∷ [] else logs_of log n)
     go n true h = one n true (eq-eqb (stripe_of e.parts) n (is ∙ sym (eqb-true n k h)))
     go n false h = one n false (ne_eqb (stripe_of e.parts) n (λ same. eqb-false n k h (sym same ∙ is))) ∙ append-nil (logs_of log n)
+
+-- the lists behind a decision on the parts of session s
+abbrev decided_as : Listing → ℕ → Seat → ℕ → List Update → Verdict → Listing
+decided_as l s seat seq parts verdict.Bounced = with_seat_at l s (record seat { stand = InTail })
+decided_as l s seat seq parts v =
+    record (with_seat_at l s (record seat { stand = InLog })) { decided = l.decided ++ record { entry = entry_of s seq parts; verdict = v } ∷ [] }
+
+abbrev cell_as : Listing → ℕ → ℕ → Seat → ℕ → Command → Option Listing
+cell_as l k s seat seq (command.Change parts) =
+    if stripe_of parts == k then Some (decided_as l s seat seq parts
+    (verdict_of (graph_in l) (map forest_in (forests_in l)) (logs_of l.decided k) parts))
+    else None
+cell_as l k s seat seq other = None
+
+-- both words for a decision
+decided-same : (l : Listing) (s : ℕ) (x : Seat) (seq : ℕ) (parts : List Update) (v : Verdict) → slice_get l.seats s ≡ Some x
+    → decided_with l (entry_of s seq parts) v ≡ decided_as l s x seq parts v
+decided-same l s x seq parts v there = go v
+  where
+    stood : (to : Stand) → stood_seats l.seats s to ≡ slice_set l.seats s (record x { stand = to })
+    stood to = ap (λ (o : Option Seat). option_map_or (λ (y : Seat). slice_set l.seats s (record y { stand = to })) o l.seats) there
+
+    logged : (w : Verdict) → record l { seats = stood_seats l.seats s InLog; decided = l.decided ++ record { entry = entry_of s seq parts; verdict = w } ∷ [] }
+        ≡ record (with_seat_at l s (record x { stand = InLog })) { decided = l.decided ++ record { entry = entry_of s seq parts; verdict = w } ∷ [] }
+    logged w = ap (λ (seats : List Seat). record l { seats = seats; decided = l.decided ++ record { entry = entry_of s seq parts; verdict = w } ∷ [] }) (stood InLog)
+
+    go : (w : Verdict) → decided_with l (entry_of s seq parts) w ≡ decided_as l s x seq parts w
+    go verdict.Bounced = ap (λ (seats : List Seat). record l { seats = seats }) (stood InTail)
+    go verdict.Applied = logged verdict.Applied
+    go verdict.NoEdge = logged verdict.NoEdge
+    go verdict.Waiting = logged verdict.Waiting
+
+-- what a cell makes of the command that it finds
+abbrev celled_as : Listing → ℕ → ℕ → Option Listing
+celled_as l k s =
+    if is_phase l.phase Cells then option_and_then
+    (λ seat. if is_stand seat.stand Undecided then option_and_then (λ asked. cell_as l k s seat asked.seq asked.command) (next_of seat) else None)
+    (slice_get l.seats s)
+    else None
+
+celled-same : (l : Listing) (k s : ℕ) → celled_as l k s ≡ celled l k s
+celled-same l k s = by_phase (is_phase l.phase Cells)
+  where
+    by_stripe : (x : Seat) (seq : ℕ) (parts : List Update) (b : Bool) (v : Verdict) → slice_get l.seats s ≡ Some x
+        → (if b then Some (decided_as l s x seq parts v) else None) ≡ (if b then Some (decided_with l (entry_of s seq parts) v) else None)
+    by_stripe x seq parts true v there = ap Some (sym (decided-same l s x seq parts v there))
+    by_stripe x seq parts false v there = refl
+
+    by_command : (x : Seat) (seq : ℕ) (c : Command) → slice_get l.seats s ≡ Some x → cell_as l k s x seq c ≡ option_and_then (celled_with l k) (entry_as s seq c)
+    by_command x seq (command.Change parts) there =
+        by_stripe x seq parts (stripe_of parts == k) (verdict_of (graph_in l) (map forest_in (forests_in l)) (logs_of l.decided k) parts) there
+    by_command x seq (command.Release upto) there = refl
+    by_command x seq command.Leave there = refl
+    by_command x seq (command.Value v a y) there = refl
+    by_command x seq (command.Parent v a y) there = refl
+    by_command x seq (command.Path v a y) there = refl
+    by_command x seq (command.Modified v a) there = refl
+    by_command x seq command.Current there = refl
+
+    by_next : (x : Seat) (o : Option Asked) → slice_get l.seats s ≡ Some x
+        → option_and_then (λ asked. cell_as l k s x asked.seq asked.command) o ≡ option_and_then (celled_with l k) (option_and_then (entry_for s) o)
+    by_next x (Some asked) there = by_command x asked.seq asked.command there
+    by_next x None there = refl
+
+    by_stand : (x : Seat) (b : Bool) → slice_get l.seats s ≡ Some x
+        → (if b then option_and_then (λ asked. cell_as l k s x asked.seq asked.command) (next_of x) else None)
+        ≡ option_and_then (celled_with l k) (option_and_then (entry_for s) (if b then next_of x else None))
+    by_stand x true there = by_next x (next_of x) there
+    by_stand x false there = refl
+
+    by_get : (o : Option Seat) → slice_get l.seats s ≡ o
+        → option_and_then (λ seat. if is_stand seat.stand Undecided then option_and_then (λ asked. cell_as l k s seat asked.seq asked.command) (next_of seat) else None) o
+        ≡ option_and_then (celled_with l k) (option_and_then (entry_for s) (option_and_then (λ seat. if is_stand seat.stand Undecided then next_of seat else None) o))
+    by_get (Some x) there = by_stand x (is_stand x.stand Undecided) there
+    by_get None there = refl
+
+    by_phase : (b : Bool)
+        → (if b then option_and_then
+        (λ seat. if is_stand seat.stand Undecided then option_and_then (λ asked. cell_as l k s seat asked.seq asked.command) (next_of seat) else None)
+        (slice_get l.seats s)
+        else None)
+        ≡ option_and_then (celled_with l k) (if b then option_and_then (entry_for s) (next_at l.seats s Undecided) else None)
+    by_phase true = by_get (slice_get l.seats s) refl
+    by_phase false = refl
 
 module _ (l : Listing) (k s : ℕ) (x : Seat) (asked : Asked) (parts : List Update) (there : slice_get l.seats s ≡ Some x) (stripe : stripe_of parts ≡ k) where
   abbrev e : Entry
@@ -78,7 +162,7 @@ module _ (l : Listing) (k s : ℕ) (x : Seat) (asked : Asked) (parts : List Upda
   state-decided verdict.Waiting = logged verdict.Waiting
 
 pub cell-move : (l : Listing) (k s : ℕ) → IsMove l (Step.Cell k s) (celled l k s)
-cell-move l k s = by_phase (is_phase l.phase Cells) refl
+cell-move l k s = subst (IsMove l (Step.Cell k s)) (celled-same l k s) (by_phase (is_phase l.phase Cells) refl)
   where
     -- the verdict in the words of the state
     verdict-same : (parts : List Update) → verdict_of (graph_in l) (map forest_in (forests_in l)) (logs_of l.decided k) parts

@@ -4,6 +4,7 @@ pub mod CellMoves
 pub mod BeginMove
 pub mod EntryState
 pub mod ReadMove
+pub mod Made
 pub mod Merging
 pub mod SealMove
 pub mod Partly

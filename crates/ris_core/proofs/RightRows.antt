@@ -57,6 +57,10 @@ right-everywhere g spec values rows are right = record { values = λ x. (at x).v
       | inr past ↦ past-right g spec (length values) rows (let all = are.all in omega arith) x past
     ]
 
+-- a right forest is right at each vertex number
+pub right-at : (g : PlainGraph) (spec : Spec) (rows : List ForestRow) → IsForest g spec (forest_in rows) → (x : ℕ) → IsRightAt g spec (forest_in rows) x
+right-at g spec rows right x = record { value = right.values x; parent = right.parents x; rooted = right.rooted x }
+
 -- All analyses
 
 -- each pair of lists of one length is right

@@ -1,12 +1,12 @@
 -- The state that lists are, where one seat is changed, and what each move of the lists is of the state.
 use Rattle.std.proofs.Common.{◌≡◌, ◌≢◌, ℕ, zero, suc, ◌<◌, ◌≤◌, ◌==◌, ◌&&◌, if◌then◌else◌, Bool, true, false, List, [], ◌∷◌, length, Option, Some, None, is_some, unwrap_or, Result, Ok, Err, arith, refl, sym, subst, ap, ◌∙◌}
 use Rattle.std.specs.List.{slice_get, slice_set}
-use Rattle.std.specs.Option.{option_and_then}
+use Rattle.std.specs.Option.{option_and_then, option_map_or}
 use Rattle.std.proofs.lemmas.Bool.{true≢false, and_parts, eqb-true, eqb-false}
 use Rattle.std.proofs.lemmas.Option.{slice_get_within}
 use Rattle.ris_base.specs.Machine.{Happens, IsEnabled, Phase, Collect, Cells, Serially, Seat, Stand, Step, Queued, InBatch, Undecided, InLog, InTail, next_of, seated, with_seat}
 use Rattle.ris_base.specs.declared.memory.NoMemory.{NoMemory}
-use Rattle.ris_core.specs.Moves.{IsMade, is_phase, is_stand, taken, taken_by, with_seat_at}
+use Rattle.ris_core.specs.Moves.{IsMade, is_phase, is_stand, next_at, stood_seats, taken, with_seat_at}
 use Rattle.ris_core.specs.Stands.{IsTried, Listing, absent_seat, seats_of, state_of}
 
 -- functions with the same values are the same
@@ -128,8 +128,35 @@ tried old new step None (Ok done) move made = subst (λ b. IsTried old step new 
 
 -- Take
 
+abbrev taken_by : Listing → ℕ → Seat → Option Listing
+taken_by l s seat = if is_stand seat.stand Queued && is_some (next_of seat) then Some (with_seat_at l s (record seat { stand = InBatch })) else None
+
+abbrev taken_as : Listing → ℕ → Option Listing
+taken_as l s = if is_phase l.phase Collect then option_and_then (taken_by l s) (slice_get l.seats s) else None
+
+taken-same : (l : Listing) (s : ℕ) → taken_as l s ≡ taken l s
+taken-same l s = by_phase (is_phase l.phase Collect)
+  where
+    by_stand : (x : Seat) (b : Bool) → slice_get l.seats s ≡ Some x
+        → (if b && is_some (next_of x) then Some (with_seat_at l s (record x { stand = InBatch })) else None)
+        ≡ (if is_some (if b then next_of x else None) then Some (record l { seats = stood_seats l.seats s InBatch }) else None)
+    by_stand x true there =
+        ap (λ (o : Option Seat). if is_some (next_of x) then Some (record l { seats = option_map_or (λ (y : Seat). slice_set l.seats s (record y { stand = InBatch })) o l.seats }) else None) (sym there)
+    by_stand x false there = refl
+
+    by_get : (o : Option Seat) → slice_get l.seats s ≡ o
+        → option_and_then (taken_by l s) o
+        ≡ (if is_some (option_and_then (λ seat. if is_stand seat.stand Queued then next_of seat else None) o) then Some (record l { seats = stood_seats l.seats s InBatch }) else None)
+    by_get (Some x) there = by_stand x (is_stand x.stand Queued) there
+    by_get None there = refl
+
+    by_phase : (b : Bool) → (if b then option_and_then (taken_by l s) (slice_get l.seats s) else None)
+        ≡ (if b && is_some (next_at l.seats s Queued) then Some (record l { seats = stood_seats l.seats s InBatch }) else None)
+    by_phase true = by_get (slice_get l.seats s) refl
+    by_phase false = refl
+
 pub take-move : (l : Listing) (s : ℕ) → IsMove l (Step.Take s) (taken l s)
-take-move l s = by_phase (is_phase l.phase Collect) refl
+take-move l s = subst (IsMove l (Step.Take s)) (taken-same l s) (by_phase (is_phase l.phase Collect) refl)
   where
     by_seat : (x : Seat) → slice_get l.seats s ≡ Some x → l.phase ≡ Collect → (ok : Bool) → (is_stand x.stand Queued && is_some (next_of x)) ≡ ok
         → IsMove l (Step.Take s) (if ok then Some (with_seat_at l s (record x { stand = InBatch })) else None)

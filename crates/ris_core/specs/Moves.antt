@@ -59,13 +59,6 @@ is_stand a b = false
 abbrev pub with_seat_at : Listing → ℕ → Seat → Listing
 with_seat_at l s seat = record l { seats = slice_set l.seats s seat }
 
--- Take
-abbrev pub taken_by : Listing → ℕ → Seat → Option Listing
-taken_by l s seat = if is_stand seat.stand Queued && is_some (next_of seat) then Some (with_seat_at l s (record seat { stand = InBatch })) else None
-
-abbrev pub taken : Listing → ℕ → Option Listing
-taken l s = if is_phase l.phase Collect then option_and_then (taken_by l s) (slice_get l.seats s) else None
-
 -- Submit: the request is of this session and has a greater number, there is room, and no leave is there
 abbrev pub may_ask : Seat → ℕ → Bool
 may_ask seat seq =
@@ -122,26 +115,6 @@ graph_in l = after l.opening l.lines (front l.lines)
 
 abbrev pub forests_in : Listing → List (List ForestRow)
 forests_in l = unwrap_or (slice_get l.places (front l.lines)) []
-
--- the lists behind a decision on the parts of session s
-abbrev pub decided_as : Listing → ℕ → Seat → ℕ → List Update → Verdict → Listing
-decided_as l s seat seq parts verdict.Bounced = with_seat_at l s (record seat { stand = InTail })
-decided_as l s seat seq parts v =
-    record (with_seat_at l s (record seat { stand = InLog })) { decided = l.decided ++ record { entry = entry_of s seq parts; verdict = v } ∷ [] }
-
-abbrev pub cell_as : Listing → ℕ → ℕ → Seat → ℕ → Command → Option Listing
-cell_as l k s seat seq (command.Change parts) =
-    if stripe_of parts == k then Some (decided_as l s seat seq parts
-    (verdict_of (graph_in l) (map forest_in (forests_in l)) (logs_of l.decided k) parts))
-    else None
-cell_as l k s seat seq other = None
-
-abbrev pub celled : Listing → ℕ → ℕ → Option Listing
-celled l k s =
-    if is_phase l.phase Cells then option_and_then
-    (λ seat. if is_stand seat.stand Undecided then option_and_then (λ asked. cell_as l k s seat asked.seq asked.command) (next_of seat) else None)
-    (slice_get l.seats s)
-    else None
 
 -- Begin
 
@@ -255,10 +228,13 @@ sealed l order =
     then option_map (λ merged. record (sealed_all l merged) { phase = Serially; decided = [] }) (merge_of order l.decided)
     else None
 
+-- the next command of session s, where it stands here
+abbrev pub next_at : List Seat → ℕ → Stand → Option Asked
+next_at seats s to = option_and_then (λ seat. if is_stand seat.stand to then next_of seat else None) (slice_get seats s)
+
 -- the next command of session s that stands in the tail, in the phase of the tail
 abbrev pub asked_in_tail : Listing → ℕ → Option Asked
-asked_in_tail l s =
-    if is_phase l.phase Serially then option_and_then (λ seat. if is_stand seat.stand InTail then next_of seat else None) (slice_get l.seats s) else None
+asked_in_tail l s = if is_phase l.phase Serially then next_at l.seats s InTail else None
 
 -- the entry that a command of session s makes, where it is a change
 abbrev pub entry_as : ℕ → ℕ → Command → Option Entry
@@ -273,9 +249,7 @@ abbrev pub entry_in_tail : Listing → ℕ → Option Entry
 entry_in_tail l s = option_and_then (entry_for s) (asked_in_tail l s)
 
 abbrev pub undecided_entry : Listing → ℕ → Option Entry
-undecided_entry l s =
-    if is_phase l.phase Cells then option_and_then (λ seat. if is_stand seat.stand Undecided then option_and_then (entry_for s) (next_of seat) else None) (slice_get l.seats s)
-    else None
+undecided_entry l s = if is_phase l.phase Cells then option_and_then (entry_for s) (next_at l.seats s Undecided) else None
 
 -- an entry was made with these rows, or they aren't right on the graph after it, or memory was wanted
 abbrev pub IsEntered : Listing → List (List ForestRow) → Entry → PlainGraph → Listing → Result Bool NoMemory → Type 0
@@ -307,10 +281,23 @@ counted t n k d = if stripe_of d.entry.parts == k then (if is_applied d then cop
 abbrev pub stood_seats : List Seat → ℕ → Stand → List Seat
 stood_seats seats s to = option_map_or (λ seat. slice_set seats s (record seat { stand = to })) (slice_get seats s) seats
 
+-- Take
+abbrev pub taken : Listing → ℕ → Option Listing
+taken l s =
+    if is_phase l.phase Collect && is_some (next_at l.seats s Queued) then Some (record l { seats = stood_seats l.seats s InBatch }) else None
+
 -- the lists behind this verdict on a candidate
 abbrev pub decided_with : Listing → Entry → Verdict → Listing
 decided_with l e verdict.Bounced = record l { seats = stood_seats l.seats e.session InTail }
 decided_with l e v = record l { seats = stood_seats l.seats e.session InLog; decided = l.decided ++ record { entry = e; verdict = v } ∷ [] }
+
+-- Cell: the candidate of session s, which is left in stripe k, is decided
+abbrev pub celled_with : Listing → ℕ → Entry → Option Listing
+celled_with l k e =
+    if stripe_of e.parts == k then Some (decided_with l e (verdict_of (graph_in l) (map forest_in (forests_in l)) (logs_of l.decided k) e.parts)) else None
+
+abbrev pub celled : Listing → ℕ → ℕ → Option Listing
+celled l k s = option_and_then (celled_with l k) (undecided_entry l s)
 
 -- the graph after these parts, or their refusal with this front
 abbrev pub IsAfter : PlainGraph → List Update → ℕ → Result PlainGraph Refusal → Type 0

@@ -1,14 +1,15 @@
-ghost use Rattle.std.specs.Prelude.{◌≡◌, IfOk, length, map, replicate};
+ghost use Rattle.std.specs.Prelude.{◌≡◌, ◌∷◌, [], IfOk, length, map, replicate};
 ghost use Rattle.std.specs.List.{list_any};
 ghost use Rattle.std.specs.Option.{option_copied};
 ghost use Rattle.ris_base.specs.Lines.{front};
 ghost use Rattle.ris_base.specs.Machine.{asked_by, empty_seat, session_by};
-ghost use Rattle.ris_core.specs.Moves.{IsMade, forests_in, is_stand, published, published_seat, submitted, taken};
+ghost use Rattle.ris_core.specs.Moves.{IsMade, forests_in, is_stand, next_at, published, published_seat, stood_seats, submitted, taken};
 ghost use Rattle.ris_core.specs.Runs.{opened_as, outcome_of};
 ghost use Rattle.ris_core.specs.Stands.{stand_of, state_of};
 
+use crate::memory::both;
 use crate::phases::{Phase, Stand};
-use crate::seats::{Decided, Seat};
+use crate::seats::{Asked, Decided, Seat};
 use crate::tables::Tables;
 use ris_base::{Command, Line, NoMemory, Outcome, PlainGraph, Request, Specs};
 use ris_four::plain_copy;
@@ -73,21 +74,21 @@ impl Board {
         requires { length tables ≡ length specs }
         ensures { IfOk result (λ board. board ≡ opened_as opening specs sessions tables) }
     {
-        let current = plain_copy(alloc, &opening)?;
-        let seats = empty_seats(alloc, sessions)?;
-        let mut places = Vec::new(alloc);
-        places.push(tables)?;
-        Ok(Board {
-            opening,
-            specs,
-            seats,
-            lines: Vec::new(alloc),
-            places,
-            phase: Phase::Collect,
-            decided: Vec::new(alloc),
-            published: 0,
-            current,
-        })
+        let lists = both(empty_seats(alloc, sessions), one_place(alloc, tables));
+        match both(plain_copy(alloc, &opening), lists) {
+            Ok((current, (seats, places))) => Ok(Board {
+                opening,
+                specs,
+                seats,
+                lines: Vec::new(alloc),
+                places,
+                phase: Phase::Collect,
+                decided: Vec::new(alloc),
+                published: 0,
+                current,
+            }),
+            Err(NoMemory) => Err(NoMemory),
+        }
     }
 
     /// What became of the request of a session with this number.
@@ -104,16 +105,10 @@ impl Board {
     pub(crate) fn take(&mut self, session: u32) -> Result<bool, NoMemory>
         ensures { IsMade (taken self.old session) self.old self.new result }
     {
-        if self.phase != Phase::Collect {
+        if self.phase != Phase::Collect || next_at(&self.seats, session, Stand::Queued).is_none() {
             return Ok(false);
         }
-        let Some(seat) = self.seats.get(session as usize) else {
-            return Ok(false);
-        };
-        if seat.stand() != Stand::Queued || !seat.is_open() {
-            return Ok(false);
-        }
-        self.seats[session as usize].move_to(Stand::InBatch);
+        stand_at(&mut self.seats, session, Stand::InBatch);
         Ok(true)
     }
 
@@ -211,11 +206,45 @@ fn publish_all(seats: &mut Vec<Seat>, seen: u64)
     }
 }
 
+/// The next command of a session, where it stands here.
+fn next_at(seats: &[Seat], session: u32, stand: Stand) -> Option<&Asked>
+    ensures { option_copied result ≡ next_at seats.now session (stand_of stand) }
+{
+    match seats.get(session as usize) {
+        Some(seat) => {
+            if seat.stand() == stand {
+                seat.next()
+            } else {
+                None
+            }
+        }
+        None => None,
+    }
+}
+
+/// The next command of a session, where it has a seat, stands elsewhere.
+fn stand_at(seats: &mut Vec<Seat>, session: u32, stand: Stand)
+    ensures { seats.new.items ≡ stood_seats seats.old.items session (stand_of stand) }
+{
+    if (session as usize) < seats.len() {
+        seats[session as usize].move_to(stand);
+    }
+}
+
 /// Whether the next command of some session stands here.
 fn some_stand(seats: &[Seat], stand: Stand) -> bool
     ensures { result ≡ list_any (λ seat. is_stand seat.stand (stand_of stand)) seats.now }
 {
     seats.iter().any(|seat| seat.stand() == stand)
+}
+
+/// The tables of the first place.
+fn one_place(alloc: Global, tables: Tables) -> Result<Vec<Tables>, NoMemory>
+    ensures { IfOk result (λ places. places.items ≡ tables ∷ []) }
+{
+    let mut places = Vec::new(alloc);
+    places.push(tables)?;
+    Ok(places)
 }
 
 /// So many seats of sessions that said nothing.

@@ -11,10 +11,9 @@ mod copies;
 mod graphs;
 mod lists;
 mod machine;
+mod memory;
 mod phases;
 mod seats;
 mod tables;
-#[cfg(test)]
-mod tests;
 
 pub use machine::{Core, CoreFault};

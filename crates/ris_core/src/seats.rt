@@ -10,6 +10,7 @@ ghost use Rattle.ris_core.specs.Stands.{stand_of};
 ghost use Rattle.std.specs.Option.{option_copied};
 
 use crate::copies::{Duplicate, copies_of};
+use crate::memory::push_both;
 use crate::phases::Stand;
 use ris_base::{Command, Entry, LogLine, NoMemory, Outcome, Question, Verdict, Version};
 use std::alloc::Global;
@@ -267,14 +268,11 @@ impl Seat {
             seq: self.next_seq(),
             command: command_for(question),
         };
-        self.replies.push(Known {
+        let known = Known {
             reply,
             knew: published,
-        })?;
-        if let Err(_) = self.commands.push(asked) {
-            let _ = self.replies.pop();
-            return Err(NoMemory);
-        }
+        };
+        push_both(&mut self.replies, &mut self.commands, known, asked)?;
         self.given += 1;
         self.seen = published;
         Ok(())

@@ -86,7 +86,7 @@ pub record IsReady (ground : Ground) (g : PlainGraph) (forests : List Forest) (d
 
 module _ (ground : Ground) (g : PlainGraph) (forests : List Forest) where
   -- an applied decision
-  right-applied : (records : List Record) (before : List Decided) (d : Decided) (part : Update) → AreRight ground.opening ground.specs ground.start records
+  pub right-applied : (records : List Record) (before : List Decided) (d : Decided) (part : Update) → AreRight ground.opening ground.specs ground.start records
       → forests_behind ground records ≡ forests → d.entry.session < ground.start.sessions → d.entry.parts ≡ part ∷ [] → IsStage g ground.specs forests before (graph_behind ground records)
       → Follows g ground.specs forests before (graph_behind ground records) d part verdict.Applied
       → AreRight ground.opening ground.specs ground.start (records ++ entry_record d.entry [] ∷ [])
@@ -137,7 +137,7 @@ module _ (ground : Ground) (g : PlainGraph) (forests : List Forest) where
 -- The tail
 
 -- one request of the tail
-right-handled : (ground : Ground) (records : List Record) (r : Request) (next : List Record) (told : Outcome) → AreRight ground.opening ground.specs ground.start records
+pub right-handled : (ground : Ground) (records : List Record) (r : Request) (next : List Record) (told : Outcome) → AreRight ground.opening ground.specs ground.start records
     → session_by r < ground.start.sessions → IsHandled ground records r next told → AreRight ground.opening ground.specs ground.start next
 right-handled ground records (request.Submit e) next told right here (inl a) = subst (λ (rs : List Record). AreRight ground.opening ground.specs ground.start rs) (sym a.same) right
 right-handled ground records (request.Submit e) next told right here (inr (inl a)) =

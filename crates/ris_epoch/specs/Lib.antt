@@ -1,2 +1,9 @@
 pub mod Account
+pub mod DriverView
+pub mod Driving
 pub mod Laws
+pub mod Openings
+pub mod Ordering
+pub mod Renewing
+pub mod Sealing
+pub mod Turning

@@ -1,11 +1,12 @@
 -- Jobs by stripe: at most one of each session, so at most 64.
-use Rattle.std.proofs.Common.{◌≡◌, ◌≢◌, ℕ, ◌+◌, ◌<◌, ◌≤◌, ◌==◌, IsTrue, List, [], ◌∷◌, ◌++◌, None, length, get_or, set, map, arith, refl, inl, inr, sym, ap, subst, ◌∙◌, get_or-set_same, get_or-set_other}
+use Rattle.std.proofs.Common.{◌≡◌, ◌≢◌, ℕ, ◌+◌, ◌<◌, ◌≤◌, ◌==◌, IsTrue, List, [], ◌∷◌, ◌++◌, None, length, get_or, set, map, nat_lt, suc, add_comm, Bool, arith, refl, inl, inr, sym, ap, subst, ◌∙◌, get_or-set_same, get_or-set_other}
 use Rattle.std.specs.List.{All, Contains, count_by, sum_by}
-use Rattle.std.proofs.lemmas.Bool.{cases_eq, cases_lt, eqb-true, eq-eqb, ne_eqb}
-use Rattle.std.proofs.lemmas.List.{get_or_past, get_or_default, get_or-replicate, length-replicate, length-set, length-append, length-map, ext_get_or}
-use Rattle.std.proofs.lemmas.List.Elements.{All-nil, All-cons, All-head, All-tail, All-append, All-map, All-push, All-contains, Contains-get_or}
+use Rattle.std.proofs.lemmas.Bool.{cases_Bool, cases_eq, cases_lt, eqb-true, eq-eqb, ne_eqb, ltb-true, ltb-false}
+use Rattle.std.proofs.lemmas.List.{get_or_past, get_or_default, get_or-replicate, length-replicate, length-set, length-append, length-map}
+use Rattle.std.proofs.lemmas.List.Elements.{All-nil, All-cons, All-head, All-tail, All-append, All-map, All-weaker, All-contains, Contains-get_or}
+use Rattle.std.proofs.lemmas.List.Kept.{AllPairs-cons}
 use Rattle.std.proofs.lemmas.List.Folds.{sum_by-replicate}
-use Rattle.std.proofs.lemmas.List.Sums.{sum_by-append, sum_by-cons, sum_by_push, sum_by-set, get_or-le-sum_by}
+use Rattle.std.proofs.lemmas.List.Sums.{sum_by-append, sum_by-cons, sum_by-set, get_or-le-sum_by}
 use Rattle.ris_base.specs.Effect.{first_past_limit}
 use Rattle.ris_base.specs.Limits.{greatest_of}
 use Rattle.ris_base.specs.declared.events.Verdict.{Verdict}
@@ -15,8 +16,8 @@ use Rattle.ris_base.specs.declared.updates.Update.{Update}
 use Rattle.ris_base.specs.declared.updates.Update.TheVariants.{AddV, DelV, AddE, DelE, SetW}
 use Rattle.ris_base.proofs.EffectLemmas.{one_if, count_by-cons}
 use Rattle.ris_base.proofs.ListLemmas.{Contains-none, Contains-first, Contains-rest}
-use Rattle.ris_graph.proofs.ListFacts.{few-once, found-count}
-use Rattle.ris_graph.specs.Jobs.{AreJobs, AreTold, HasSession, IsJob, IsJobOf, is_job, jobs_of, no_jobs, stripe_of, with_job}
+use Rattle.ris_graph.proofs.ListFacts.{AllPairs-head, AllPairs-nil, AllPairs-tail, few-once, found-count}
+use Rattle.ris_graph.specs.Jobs.{AreAscending, AreJobs, AreTold, HasSession, IsJob, IsJobOf, is_job, jobs_of, no_jobs, stripe_of, with_job, with_session}
 use Rattle.ris_graph.specs.declared.stripes.StripeJob.{StripeJob}
 
 -- Sessions
@@ -127,6 +128,28 @@ stripe-jobs-le js m =
       | inr past ↦ (let none = ap length (get_or_past js m [] past) in omega arith)
     ]
 
+-- the jobs of two stripes are of other sessions
+pub sessions-apart : (js : List (List StripeJob)) (m n : ℕ) → AreJobs js → m ≢ n → All (λ j. All (λ i. i.session ≢ j.session) (get_or js m [])) (get_or js n [])
+sessions-apart js m n are other a d lt b e less same =
+    let x = (get_or (get_or js n []) a d).session in
+    let f = λ (l : List StripeJob). count_by (λ j. j.session == x) l in
+    let first = get_or-le-sum_by (λ (j : StripeJob). one_if (j.session == x)) (get_or js n []) a d lt in
+    let second = get_or-le-sum_by (λ (j : StripeJob). one_if (j.session == x)) (get_or js m []) b e less in
+    let one : one_if ((get_or (get_or js n []) a d).session == x) ≡ 1 = rw (eq-eqb (get_or (get_or js n []) a d).session x refl) refl in
+    let two : one_if ((get_or (get_or js m []) b e).session == x) ≡ 1 = rw (eq-eqb (get_or (get_or js m []) b e).session x same) refl in
+    let whole = λ (inside : m < length js). sum_by-set f js m [] [] inside in
+    let rest = λ (inside : n < length (set js m [])). get_or-le-sum_by f (set js m []) n [] inside in
+    let read = ap f (get_or-set_other js m n [] [] (λ e. other (sym e))) in
+    let size = length-set {A = List StripeJob} js m [] in
+    let few = are.once x in
+    elim (cases_lt m (length js)) [
+      | inl at ↦ elim (cases_lt n (length js)) [
+        | inl there ↦ (let all = whole at in let some = rest (omega (arith, size, there)) in absurd (omega (arith, all, some, read, first, second, one, two, few)))
+        | inr past ↦ (let none = ap length (get_or_past js n [] past) in absurd (omega (arith, none, lt)))
+      ]
+      | inr past ↦ (let none = ap length (get_or_past js m [] past) in absurd (omega (arith, none, less)))
+    ]
+
 -- No jobs
 
 pub no_jobs-at : (m : ℕ) → get_or no_jobs m [] ≡ []
@@ -138,14 +161,56 @@ AreJobs-none = record {
   stripes = length-replicate {A = List StripeJob} 64 [];
   each = λ m. rw (no_jobs-at m) (All-nil (IsJobOf m));
   once = λ s. (let zero = sum_by-replicate (λ (l : List StripeJob). count_by (λ j. j.session == s) l) 64 [] in omega arith);
+  ascending = λ m. rw (no_jobs-at m) (AllPairs-nil (λ (i j : StripeJob). i.session < j.session));
 }
 
 pub AreTold-none : (verdicts : List Verdict) → length verdicts ≡ 64 → AreTold no_jobs verdicts
 AreTold-none verdicts size = record { sessions = size; told = λ m. rw (no_jobs-at m) (All-nil (λ j. get_or verdicts j.session Waiting ≡ j.verdict)) }
 
--- 64 stripes of which each is empty
-pub no_jobs-is : (js : List (List StripeJob)) → length js ≡ 64 → ((m : ℕ) → m < 64 → get_or js m [] ≡ []) → js ≡ no_jobs
-no_jobs-is js size empty = ext_get_or [] js no_jobs (size ∙ sym (length-replicate {A = List StripeJob} 64 [])) (λ m lt. empty m (omega arith) ∙ sym (no_jobs-at m))
+-- One job more in a list
+
+pub length-with_session : (jobs : List StripeJob) (j : StripeJob) → length (with_session jobs j) ≡ suc (length jobs)
+length-with_session [] j = refl
+length-with_session (i ∷ jobs) j =
+    elim (cases_Bool (nat_lt i.session j.session)) [
+      | inl less ↦ rw less (ap (λ n. suc n) (length-with_session jobs j))
+      | inr more ↦ rw more refl
+    ]
+
+pub count_by-with_session : (p : StripeJob → Bool) (jobs : List StripeJob) (j : StripeJob) → count_by p (with_session jobs j) ≡ count_by p jobs + one_if (p j)
+count_by-with_session p [] j = count_by-cons p j [] ∙ add_comm (one_if (p j)) 0
+count_by-with_session p (i ∷ jobs) j =
+    let old = count_by-cons p i jobs in
+    elim (cases_Bool (nat_lt i.session j.session)) [
+      | inl less ↦ rw less (let rest = count_by-with_session p jobs j in let new = count_by-cons p i (with_session jobs j) in omega (arith, rest, new, old))
+      | inr more ↦ rw more (let new = count_by-cons p j (i ∷ jobs) in omega (arith, new))
+    ]
+
+pub All-with_session : (P : StripeJob → Type 0) (jobs : List StripeJob) (j : StripeJob) → All P jobs → P j → All P (with_session jobs j)
+All-with_session P [] j all here = All-cons P j [] here all
+All-with_session P (i ∷ jobs) j all here =
+    elim (cases_Bool (nat_lt i.session j.session)) [
+      | inl less ↦ rw less (All-cons P i (with_session jobs j) (All-head P i jobs all) (All-with_session P jobs j (All-tail P i jobs all) here))
+      | inr more ↦ rw more (All-cons P j (i ∷ jobs) here all)
+    ]
+
+pub AreAscending-with_session : (jobs : List StripeJob) (j : StripeJob) → AreAscending jobs → All (λ i. i.session ≢ j.session) jobs → AreAscending (with_session jobs j)
+AreAscending-with_session [] j rise others = AllPairs-cons (λ (a b : StripeJob). a.session < b.session) j [] (All-nil (λ (b : StripeJob). j.session < b.session)) rise
+AreAscending-with_session (i ∷ jobs) j rise others =
+    let R = λ (a b : StripeJob). a.session < b.session in
+    let above : All (λ (b : StripeJob). i.session < b.session) jobs = AllPairs-head R i jobs rise in
+    let other = All-head (λ (a : StripeJob). a.session ≢ j.session) i jobs others in
+    elim (cases_Bool (nat_lt i.session j.session)) [
+      | inl less ↦ rw less (AllPairs-cons R i (with_session jobs j) (All-with_session (λ (b : StripeJob). i.session < b.session) jobs j above (ltb-true i.session j.session less))
+          (AreAscending-with_session jobs j (AllPairs-tail R i jobs rise) (All-tail (λ (a : StripeJob). a.session ≢ j.session) i jobs others)))
+      | inr more ↦ (let le = ltb-false i.session j.session more in
+          let lt : j.session < i.session = apart i.session j.session le other in
+          rw more (AllPairs-cons R j (i ∷ jobs) (All-cons (λ (b : StripeJob). j.session < b.session) i jobs lt
+          (All-weaker (λ (b : StripeJob). i.session < b.session) (λ (b : StripeJob). j.session < b.session) (λ b h. omega arith) jobs above)) rise))
+    ]
+  where
+    apart : (a b : ℕ) → b ≤ a → a ≢ b → b < a
+    apart a b le ne = omega arith
 
 -- One job more
 
@@ -162,8 +227,8 @@ jobs_of-with_job js s update x size =
     let low = stripe_of-lt update in
     let job : StripeJob = record { session = s; update = update; verdict = Waiting } in
     let jobs : List StripeJob = get_or js m [] in
-    let whole = sum_by-set (λ (l : List StripeJob). count_by (λ j. j.session == x) l) js m (jobs ++ job ∷ []) [] (omega arith) in
-    let more = sum_by_push (λ (j : StripeJob). one_if (j.session == x)) jobs job in
+    let whole = sum_by-set (λ (l : List StripeJob). count_by (λ j. j.session == x) l) js m (with_session jobs job) [] (omega arith) in
+    let more = count_by-with_session (λ (j : StripeJob). j.session == x) jobs job in
     omega (arith, whole, more)
 
 pub AreJobs-with_job : (js : List (List StripeJob)) (s : ℕ) (update : Update) → AreJobs js → s < 64 → ¬ (HasSession js s) → IsTrue (is_job update)
@@ -174,12 +239,17 @@ AreJobs-with_job js s update are low none kind limits =
     let lt = stripe_of-lt update in
     let job : StripeJob = record { session = s; update = update; verdict = Waiting } in
     let jobs : List StripeJob = get_or js m [] in
+    let others : All (λ i. i.session ≢ s) jobs = λ i d less same. none (get_or jobs i d, IsJob-at js m (get_or jobs i d) (Contains-get_or jobs i d less), same) in
     record {
-      stripes = length-set js m (jobs ++ job ∷ []) ∙ are.stripes;
+      stripes = length-set js m (with_session jobs job) ∙ are.stripes;
       each = λ k. elim (cases_eq k m) [
-        | inl same ↦ rw (same, get_or-set_same js m (jobs ++ job ∷ []) [] (omega arith))
-            (All-push (IsJobOf m) jobs job (are.each m) (record { session = low; kind = kind; limits = limits; home = refl }))
-        | inr other ↦ rw (get_or-set_other js m k (jobs ++ job ∷ []) [] other) (are.each k)
+        | inl same ↦ rw (same, get_or-set_same js m (with_session jobs job) [] (omega arith))
+            (All-with_session (IsJobOf m) jobs job (are.each m) (record { session = low; kind = kind; limits = limits; home = refl }))
+        | inr other ↦ rw (get_or-set_other js m k (with_session jobs job) [] other) (are.each k)
+      ];
+      ascending = λ k. elim (cases_eq k m) [
+        | inl same ↦ rw (same, get_or-set_same js m (with_session jobs job) [] (omega arith)) (AreAscending-with_session jobs job (are.ascending m) others)
+        | inr other ↦ rw (get_or-set_other js m k (with_session jobs job) [] other) (are.ascending k)
       ];
       once = λ x. (
           let now = jobs_of-with_job js s update x are.stripes in
@@ -206,9 +276,9 @@ AreTold-with_job js s update verdicts size low none told =
     record {
       sessions = length-set verdicts s Waiting ∙ told.sessions;
       told = λ k. elim (cases_eq k m) [
-        | inl same ↦ rw (same, get_or-set_same js m (jobs ++ job ∷ []) [] (omega arith))
-            (All-push (λ j. get_or (set verdicts s Waiting) j.session Waiting ≡ j.verdict) jobs job (old m) (get_or-set_same verdicts s Waiting Waiting (omega arith)))
-        | inr other ↦ rw (get_or-set_other js m k (jobs ++ job ∷ []) [] other) (old k)
+        | inl same ↦ rw (same, get_or-set_same js m (with_session jobs job) [] (omega arith))
+            (All-with_session (λ j. get_or (set verdicts s Waiting) j.session Waiting ≡ j.verdict) jobs job (old m) (get_or-set_same verdicts s Waiting Waiting (omega arith)))
+        | inr other ↦ rw (get_or-set_other js m k (with_session jobs job) [] other) (old k)
       ];
     }
 

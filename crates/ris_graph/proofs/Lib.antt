@@ -1,11 +1,12 @@
+pub mod CarryLemmas
 pub mod GraphLemmas
 pub mod JobLemmas
 pub mod Laws
 pub mod ListFacts
 pub mod ListedGraph
+pub mod ListedJobs
 pub mod ListingLemmas
 pub mod MergeLemmas
-pub mod MoveLemmas
 pub mod NetLemmas
 pub mod PhaseLemmas
 pub mod PutLemmas
@@ -18,4 +19,5 @@ pub mod StartLemmas
 pub mod StepLemmas
 pub mod StripeLemmas
 pub mod TableLemmas
+pub mod UnloadLemmas
 pub mod WorkLemmas

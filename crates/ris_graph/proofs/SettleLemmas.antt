@@ -3,10 +3,9 @@ use Rattle.std.proofs.Common.{◌≡◌, ◌≢◌, ℕ, suc, ◌+◌, ◌-◌, 
 use Rattle.std.specs.List.{All, count_by, fold}
 use Rattle.std.proofs.lemmas.Bool.{cases_Bool, eq-eqb}
 use Rattle.std.proofs.lemmas.Bool.Decides.{nat_tests}
-use Rattle.std.proofs.lemmas.List.{append-nil, drop_more, length-append, length-set, take-append-drop, take_more}
-use Rattle.std.proofs.lemmas.List.Concat.{flat_map-append, flat_map-cons}
+use Rattle.std.proofs.lemmas.List.{append-nil, drop_more, length-set, take-append-drop}
 use Rattle.std.proofs.lemmas.List.Elements.{All-cons, All-nil, All-head, All-tail, All-weaker}
-use Rattle.std.proofs.lemmas.List.Sums.{fold-append, fold_more, get_or-le-sum_by}
+use Rattle.std.proofs.lemmas.List.Sums.{fold_more, get_or-le-sum_by}
 use Rattle.ris_base.specs.Effect.{first_past_limit}
 use Rattle.ris_base.specs.Graph.{triple}
 use Rattle.ris_base.specs.Limits.{greatest_of}
@@ -19,10 +18,9 @@ use Rattle.ris_base.proofs.EffectLemmas.{one_if, count_by-cons}
 use Rattle.ris_rows.specs.Neighbours.{IsAscending, copies_of}
 use Rattle.ris_rows.specs.RowView.{RowView, inserted, removed}
 use Rattle.ris_graph.specs.GraphView.{row_at}
-use Rattle.ris_graph.specs.Settling.{CanAdd, CanTake, HasAddRoom, HasInRow, copy_added, copy_taken, jobs_in, with_added, with_taken, with_told}
-use Rattle.ris_graph.specs.StripeView.{StripeView, is_applied}
+use Rattle.ris_graph.specs.Settling.{CanAdd, CanTake, HasAddRoom, HasInRow, copy_added, copy_taken, with_added, with_taken, with_told}
+use Rattle.ris_graph.specs.StripeView.{is_applied}
 use Rattle.ris_graph.specs.declared.stripes.StripeJob.{StripeJob}
-use Rattle.ris_graph.proofs.ListFacts.{All-behind, All-front}
 use Rattle.ris_graph.proofs.RowSteps.{more-ascending, more-copies, more-spare, fewer-ascending, fewer-copies}
 use Rattle.ris_graph.proofs.StepLemmas.{adds, adds_triple, takes, takes_triple}
 
@@ -31,21 +29,6 @@ one_if-le true = omega arith
 one_if-le false = omega arith
 
 -- Lists of jobs
-
--- the jobs of one stripe more
-pub jobs_in-more : (ss : List StripeView) (i : ℕ) (s : StripeView) → i < length ss → get_or ss i s ≡ s → jobs_in (take (i + 1) ss) ≡ jobs_in (take i ss) ++ s.jobs
-jobs_in-more ss i s lt read =
-    let f = λ (x : StripeView). x.jobs in
-    ap jobs_in (take_more ss i s lt ∙ ap (λ (x : StripeView). take i ss ++ x ∷ []) read) ∙ flat_map-append f (take i ss) (s ∷ [])
-    ∙ ap (λ (l : List StripeJob). jobs_in (take i ss) ++ l) (flat_map-cons f s [] ∙ simp append-nil)
-
--- the jobs of all stripes are those before one, its own and those after it
-pub jobs_in-split : (ss : List StripeView) (i : ℕ) (s : StripeView) → i < length ss → get_or ss i s ≡ s → jobs_in ss ≡ jobs_in (take i ss) ++ (s.jobs ++ jobs_in (drop (i + 1) ss))
-jobs_in-split ss i s lt read =
-    let f = λ (x : StripeView). x.jobs in
-    ap jobs_in (sym (take-append-drop i ss)) ∙ flat_map-append f (take i ss) (drop i ss)
-    ∙ ap (λ (l : List StripeView). jobs_in (take i ss) ++ jobs_in l) (drop_more ss i s lt ∙ ap (λ (x : StripeView). x ∷ drop (i + 1) ss) read)
-    ∙ ap (λ (l : List StripeJob). jobs_in (take i ss) ++ l) (flat_map-cons f s (drop (i + 1) ss))
 
 -- a list is what stands before a place, the item there and the rest
 pub list-split : {X : Type 0} (xs : List X) (i : ℕ) (x : X) → i < length xs → get_or xs i x ≡ x → xs ≡ take i xs ++ (x ∷ drop (i + 1) xs)
@@ -118,18 +101,7 @@ pub CanAdd-after : (ins : List RowView) (xs ys : List StripeJob) → CanAdd ins 
 CanAdd-after ins [] ys can = can
 CanAdd-after ins (x ∷ xs) ys can = CanAdd-after (with_added ins x) xs ys (CanAdd-next ins x (xs ++ ys) can)
 
-pub CanAdd-front : (ins : List RowView) (xs ys : List StripeJob) → CanAdd ins (xs ++ ys) → CanAdd ins xs
-CanAdd-front ins xs ys can =
-    let size = length-append xs ys in
-    record {
-      ascending = can.ascending;
-      limits = All-front (λ (i : StripeJob). first_past_limit (greatest_of Two) i.update ≡ None) xs ys can.limits;
-      room = All-weaker (λ (i : StripeJob). HasAddRoom ins (length (xs ++ ys)) i.update) (λ i. HasAddRoom ins (length xs) i.update)
-          (λ i h. HasAddRoom-le ins (length xs) (length (xs ++ ys)) i.update (omega arith) h) xs
-          (All-front (λ (i : StripeJob). HasAddRoom ins (length (xs ++ ys)) i.update) xs ys can.room);
-    }
-
--- there is room for the job at a place, and for those of a stripe
+-- there is room for the job at a place
 pub CanAdd-at : (ins : List RowView) (jobs : List StripeJob) (i : ℕ) (j : StripeJob) → CanAdd ins jobs → i < length jobs → get_or jobs i j ≡ j
     → HasAddRoom (fold with_added ins (take i jobs)) 1 j.update
 CanAdd-at ins jobs i j can lt read =
@@ -138,20 +110,10 @@ CanAdd-at ins jobs i j can lt read =
     let room = All-head (λ (x : StripeJob). HasAddRoom (fold with_added ins (take i jobs)) (length (j ∷ rest)) x.update) j rest here.room in
     HasAddRoom-le (fold with_added ins (take i jobs)) 1 (length (j ∷ rest)) j.update (omega arith) room
 
-pub CanAdd-stripe : (ins : List RowView) (ss : List StripeView) (i : ℕ) (s : StripeView) → CanAdd ins (jobs_in ss) → i < length ss → get_or ss i s ≡ s
-    → CanAdd (fold with_added ins (jobs_in (take i ss))) s.jobs
-CanAdd-stripe ins ss i s can lt read =
-    CanAdd-front (fold with_added ins (jobs_in (take i ss))) s.jobs (jobs_in (drop (i + 1) ss))
-    (CanAdd-after ins (jobs_in (take i ss)) (s.jobs ++ jobs_in (drop (i + 1) ss)) (subst (CanAdd ins) (jobs_in-split ss i s lt read) can))
-
--- one job more, and the jobs of one stripe more
+-- one job more
 pub fold-at : {Y : Type 0} (f : Y → StripeJob → Y) (a : Y) (jobs : List StripeJob) (i : ℕ) (j : StripeJob) → i < length jobs → get_or jobs i j ≡ j
     → fold f a (take (i + 1) jobs) ≡ f (fold f a (take i jobs)) j
 fold-at f a jobs i j lt read = fold_more f a jobs i j lt ∙ ap (f (fold f a (take i jobs))) read
-
-pub fold-stripe : {Y : Type 0} (f : Y → StripeJob → Y) (a : Y) (ss : List StripeView) (i : ℕ) (s : StripeView) → i < length ss → get_or ss i s ≡ s
-    → fold f a (jobs_in (take (i + 1) ss)) ≡ fold f (fold f a (jobs_in (take i ss))) s.jobs
-fold-stripe f a ss i s lt read = ap (fold f a) (jobs_in-more ss i s lt read) ∙ fold-append f a (jobs_in (take i ss)) s.jobs
 
 -- Copies that are taken
 
@@ -202,23 +164,6 @@ CanTake-at ins jobs i j can lt read =
     let here = CanTake-after ins (take i jobs) (j ∷ rest) (subst (CanTake ins) (list-split jobs i j lt read) can) in
     All-head (λ (x : StripeJob). HasInRow (fold with_taken ins (take i jobs)) x.update) j rest here.rows
 
-pub CanTake-stripe : (ins : List RowView) (ss : List StripeView) (i : ℕ) (s : StripeView) → CanTake ins (jobs_in ss) → i < length ss → get_or ss i s ≡ s
-    → CanTake (fold with_taken ins (jobs_in (take i ss))) s.jobs
-CanTake-stripe ins ss i s can lt read =
-    let rest = jobs_in (drop (i + 1) ss) in
-    let here = CanTake-after ins (jobs_in (take i ss)) (s.jobs ++ rest) (subst (CanTake ins) (jobs_in-split ss i s lt read) can) in
-    record {
-      ascending = here.ascending;
-      limits = All-front (λ (x : StripeJob). first_past_limit (greatest_of Two) x.update ≡ None) s.jobs rest here.limits;
-      rows = All-front (λ (x : StripeJob). HasInRow (fold with_taken ins (jobs_in (take i ss))) x.update) s.jobs rest here.rows;
-    }
-
--- what holds of the jobs of all stripes holds of those of each
-pub All-stripe : (P : StripeJob → Type 0) (ss : List StripeView) (i : ℕ) (s : StripeView) → All P (jobs_in ss) → i < length ss → get_or ss i s ≡ s → All P s.jobs
-All-stripe P ss i s all lt read =
-    All-front P s.jobs (jobs_in (drop (i + 1) ss))
-    (All-behind P (jobs_in (take i ss)) (s.jobs ++ jobs_in (drop (i + 1) ss)) (subst (λ (l : List StripeJob). All P l) (jobs_in-split ss i s lt read) all))
-
 -- Verdicts
 
 pub length-told : (verdicts : List Verdict) (jobs : List StripeJob) → length (fold with_told verdicts jobs) ≡ length verdicts
@@ -252,6 +197,11 @@ told-each verdicts (j ∷ js) within once =
     (told-kept next js j.session others ∙ get_or-set_same verdicts j.session j.verdict Waiting lt)
     (told-each next js (subst (λ n. All (λ (i : StripeJob). i.session < n) js) (sym size) (All-tail (λ (i : StripeJob). i.session < length verdicts) j js within))
     (λ x. (let whole = counts x in let few = once x in omega arith)))
+
+-- jobs of other sessions keep theirs
+pub told-others : (verdicts : List Verdict) (jobs others : List StripeJob) → All (λ j. All (λ i. i.session ≢ j.session) jobs) others → All (λ j. get_or verdicts j.session Waiting ≡ j.verdict) others
+    → All (λ j. get_or (fold with_told verdicts jobs) j.session Waiting ≡ j.verdict) others
+told-others verdicts jobs others apart told k d lt = told-kept verdicts jobs (get_or others k d).session (apart k d lt) ∙ told k d lt
 
 -- The copies after all jobs
 

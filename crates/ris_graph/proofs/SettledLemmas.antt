@@ -20,7 +20,7 @@ use Rattle.ris_rows.specs.RowView.{RowView}
 use Rattle.ris_graph.specs.GraphView.{GraphView, IsOf, copies_in, in_row, out_row, row_at, vertex_in}
 use Rattle.ris_graph.specs.Jobs.{IsJobOf, is_job, stripe_of}
 use Rattle.ris_graph.specs.Phase.{AreAccepted, HasEnds, HasPhaseRoom, IsMerge, IsReady, IsWorkOf, LooseView, applied_of, entered_each, stripe_at}
-use Rattle.ris_graph.specs.Settling.{CanAdd, CanTake, HasAddRoom, HasInRow, jobs_in, with_added, with_taken}
+use Rattle.ris_graph.specs.Settling.{CanAdd, CanTake, HasAddRoom, HasInRow, with_added, with_taken}
 use Rattle.ris_graph.specs.Sound.{IsSized, IsSound}
 use Rattle.ris_graph.specs.StripeView.{StripeView, fresh, is_applied, no_stripe}
 use Rattle.ris_graph.specs.declared.stripes.StripeJob.{StripeJob}
@@ -29,8 +29,7 @@ use Rattle.ris_graph.proofs.JobLemmas.{stripe_of-lt}
 use Rattle.ris_graph.proofs.ListFacts.{filter-none}
 use Rattle.ris_graph.proofs.ListedGraph.{IsOf-listed, listed}
 use Rattle.ris_graph.proofs.MergeLemmas.{HasPlainEnds, IsFit, Runs-local, Runs-merged, accepted-each, copies_through-own, not_same, proper-each}
-use Rattle.ris_graph.proofs.PhaseLemmas.{All-work, All-work_in, count_by-jobs_in, few_in, sum_by-one, under}
-use Rattle.ris_graph.proofs.RoomLemmas.{count_by-none}
+use Rattle.ris_graph.proofs.PhaseLemmas.{All-work, All-work_in, AreDone, count_by-work, few_in, under}
 use Rattle.ris_graph.proofs.SettleLemmas.{CanTake-added, CanTake-after, HasAddRoom-le, added-copies, length-added, length-taken, taken-copies}
 use Rattle.ris_graph.proofs.StepLemmas.{Runs, adds_triple, stripe_copies, takes_triple}
 use Rattle.ris_graph.proofs.WorkLemmas.{out_row-at, ready-at}
@@ -86,18 +85,18 @@ plain-ends g p (SetW u v w w2) of ends = tt
 
 -- The settled graph
 
-abbrev pub settled_ins : LooseView → List RowView
-settled_ins l = fold with_taken (fold with_added l.ins (jobs_in l.stripes)) (jobs_in l.stripes)
+abbrev pub settled_ins : LooseView → List StripeJob → List RowView
+settled_ins l jobs = fold with_taken (fold with_added l.ins jobs) jobs
 
-abbrev pub settled : LooseView → GraphView
-settled l = record { format = l.format; stripes = map (λ s. s.rows) l.stripes; ins = settled_ins l; present = l.present }
+abbrev pub settled : LooseView → List StripeJob → GraphView
+settled l jobs = record { format = l.format; stripes = map (λ s. s.rows) l.stripes; ins = settled_ins l jobs; present = l.present }
 
 -- the applied updates of the stripes below n, one stripe after another
 abbrev pub by_stripes : LooseView → ℕ → List Update
 by_stripes l zero = []
 by_stripes l (suc n) = by_stripes l n ++ applied_of (stripe_at l n)
 
-module _ (g : GraphView) (js : List (List StripeJob)) (l : LooseView) (work : IsWorkOf g js l) where
+module _ (g : GraphView) (js : List (List StripeJob)) (l : LooseView) (work : IsWorkOf g js l) (jobs : List StripeJob) (done : AreDone l jobs) where
   -- Room in the in rows
 
   add_room : (u : Update) → HasEnds g u → HasPhaseRoom g u → HasAddRoom g.ins 64 u
@@ -122,20 +121,20 @@ module _ (g : GraphView) (js : List (List StripeJob)) (l : LooseView) (work : Is
   in_row_for (AddE u v w) ends = tt
   in_row_for (SetW u v w w2) ends = tt
 
-  pub CanAdd-work : CanAdd l.ins (jobs_in l.stripes)
-  CanAdd-work = subst (λ (ins : List RowView). CanAdd ins (jobs_in l.stripes)) (sym work.ins) (record {
+  pub CanAdd-work : CanAdd l.ins jobs
+  CanAdd-work = subst (λ (ins : List RowView). CanAdd ins jobs) (sym work.ins) (record {
     ascending = λ v. subst (λ (r : RowView). IsAscending r.items) (in_row-is g v) (work.sound.ins v);
-    limits = All-work_in g js l work (λ s u. first_past_limit (greatest_of Two) u ≡ None)
+    limits = All-work_in g js l work jobs done (λ s u. first_past_limit (greatest_of Two) u ≡ None)
         (λ m lt. All-weaker (IsJobOf m) (λ j. first_past_limit (greatest_of Two) j.update ≡ None) (λ j h. h.limits) (get_or js m []) (work.jobs.each m));
-    room = All-work_in g js l work (λ s u. HasAddRoom g.ins (length (jobs_in l.stripes)) u)
-        (λ m lt. All-weaker (IsReady g) (λ j. HasAddRoom g.ins (length (jobs_in l.stripes)) j.update)
-        (λ j h. HasAddRoom-le g.ins (length (jobs_in l.stripes)) 64 j.update (few_in g js l work) (add_room j.update h.ends h.room))
+    room = All-work_in g js l work jobs done (λ s u. HasAddRoom g.ins (length jobs) u)
+        (λ m lt. All-weaker (IsReady g) (λ j. HasAddRoom g.ins (length jobs) j.update)
+        (λ j h. HasAddRoom-le g.ins (length jobs) 64 j.update (few_in g js l work jobs done) (add_room j.update h.ends h.room))
         (get_or js m []) (ready-at g js m work.jobs work.ready lt));
   })
 
-  pub CanTake-work : CanTake (fold with_added l.ins (jobs_in l.stripes)) (jobs_in l.stripes)
-  CanTake-work = CanTake-added l.ins (jobs_in l.stripes) CanAdd-work
-      (All-work_in g js l work (λ s u. HasInRow l.ins u)
+  pub CanTake-work : CanTake (fold with_added l.ins jobs) jobs
+  CanTake-work = CanTake-added l.ins jobs CanAdd-work
+      (All-work_in g js l work jobs done (λ s u. HasInRow l.ins u)
       (λ m lt. All-weaker (IsReady g) (λ j. HasInRow l.ins j.update) (λ j h. subst (λ (ins : List RowView). HasInRow ins j.update) (sym work.ins) (in_row_for j.update h.ends))
       (get_or js m []) (ready-at g js m work.jobs work.ready lt)))
 
@@ -149,16 +148,10 @@ module _ (g : GraphView) (js : List (List StripeJob)) (l : LooseView) (work : Is
 
   -- the jobs of other stripes add nothing to a triple and take nothing
   own-count : (p : Triple → Update → Bool) (t : Triple) → ((u : Update) → stripe_of u ≢ t.source % 64 → p t u ≡ false)
-      → count_by (λ j. is_applied j && p t j.update) (jobs_in l.stripes) ≡ count_by (λ j. is_applied j && p t j.update) (stripe_at l (t.source % 64)).jobs
+      → count_by (λ j. is_applied j && p t j.update) jobs ≡ count_by (λ j. is_applied j && p t j.update) (stripe_at l (t.source % 64)).jobs
   own-count p t others =
-      let f = λ (s : StripeView). count_by (λ (j : StripeJob). is_applied j && p t j.update) s.jobs in
-      let size = work.stripes in
-      let lt = own-lt t in
-      count_by-jobs_in (λ (j : StripeJob). is_applied j && p t j.update) l.stripes
-      ∙ sum_by-one f l.stripes (t.source % 64) (omega arith) (λ k less ne.
-      count_by-none (λ (j : StripeJob). is_applied j && p t j.update) (stripe_at l k).jobs
-      (All-weaker (λ (j : StripeJob). stripe_of j.update ≡ k) (λ j. (is_applied j && p t j.update) ≡ false)
-      (λ j home. and_fails (is_applied j) (p t j.update) (others j.update (λ e. ne (sym home ∙ e)))) (stripe_at l k).jobs (homes k (omega arith))))
+      count_by-work g js l work jobs done (λ j. is_applied j && p t j.update) (t.source % 64) (own-lt t)
+      (λ j other. and_fails (is_applied j) (p t j.update) (others j.update other))
     where
       and_fails : (a b : Bool) → b ≡ false → (a && b) ≡ false
       and_fails true b h = h
@@ -168,21 +161,21 @@ module _ (g : GraphView) (js : List (List StripeJob)) (l : LooseView) (work : Is
   copies-began : (t : Triple) → stripe_copies (fresh (get_or g.stripes (t.source % 64) []) (get_or js (t.source % 64) [])) t ≡ copies_in g t
   copies-began t = ap (λ (r : RowView). copies_of r.items t.target t.weight) (sym (out_row-at g (t.source % 64) (t.source / 64) t.source refl refl))
 
-  settled-row : (u : ℕ) → out_row (settled l) u ≡ row_at (stripe_at l (u % 64)).rows (u / 64)
+  settled-row : (u : ℕ) → out_row (settled l jobs) u ≡ row_at (stripe_at l (u % 64)).rows (u / 64)
   settled-row u =
       let size = work.stripes in
-      out_row-at (settled l) (u % 64) (u / 64) u refl refl
+      out_row-at (settled l jobs) (u % 64) (u / 64) u refl refl
       ∙ ap (λ (rows : List RowView). row_at rows (u / 64)) (get_or-map (λ (s : StripeView). s.rows) l.stripes (u % 64) no_stripe [] (omega arith))
 
-  copies-settled : (t : Triple) → copies_in (settled l) t ≡ stripe_copies (stripe_at l (t.source % 64)) t
+  copies-settled : (t : Triple) → copies_in (settled l jobs) t ≡ stripe_copies (stripe_at l (t.source % 64)) t
   copies-settled t = ap (λ (r : RowView). copies_of r.items t.target t.weight) (settled-row t.source)
 
   -- the in rows are the transpose again
-  transposed-settled : (t : Triple) → copies_of (in_row (settled l) t.target).items t.source t.weight ≡ copies_in (settled l) t
+  transposed-settled : (t : Triple) → copies_of (in_row (settled l jobs) t.target).items t.source t.weight ≡ copies_in (settled l jobs) t
   transposed-settled t =
       let m = t.source % 64 in
-      let added = added-copies l.ins (jobs_in l.stripes) t.source t.target t.weight CanAdd-work in
-      let taken = taken-copies (fold with_added l.ins (jobs_in l.stripes)) (jobs_in l.stripes) t.source t.target t.weight CanTake-work in
+      let added = added-copies l.ins jobs t.source t.target t.weight CanAdd-work in
+      let taken = taken-copies (fold with_added l.ins jobs) jobs t.source t.target t.weight CanTake-work in
       let gave = own-count adds_triple t (other_adds t) in
       let took = own-count takes_triple t (other_takes t) in
       let balance = (under g js l work m (own-lt t)).balance t refl in
@@ -191,18 +184,18 @@ module _ (g : GraphView) (js : List (List StripeJob)) (l : LooseView) (work : Is
       let was : copies_of (row_at l.ins t.target).items t.source t.weight ≡ copies_in g t
       = ap (λ (ins : List RowView). copies_of (row_at ins t.target).items t.source t.weight) work.ins
       ∙ ap (λ (r : RowView). copies_of r.items t.source t.weight) (sym (in_row-is g t.target)) ∙ work.sound.transposed t in
-      let is : copies_of (in_row (settled l) t.target).items t.source t.weight ≡ copies_of (row_at (settled_ins l) t.target).items t.source t.weight
-      = ap (λ (r : RowView). copies_of r.items t.source t.weight) (in_row-is (settled l) t.target) in
+      let is : copies_of (in_row (settled l jobs) t.target).items t.source t.weight ≡ copies_of (row_at (settled_ins l jobs) t.target).items t.source t.weight
+      = ap (λ (r : RowView). copies_of r.items t.source t.weight) (in_row-is (settled l jobs) t.target) in
       all_in _ _ _ _ _ _ _ _ _ is taken added was gave took balance began now
     where
       all_in : (into rows mid old was gave took before after : ℕ) {a d : ℕ} → into ≡ rows → rows ≡ mid - d → mid ≡ old + a → old ≡ was → a ≡ gave → d ≡ took
           → after + took ≡ before + gave → before ≡ was → {now : ℕ} → now ≡ after → into ≡ now
       all_in into rows mid old was gave took before after e1 e2 e3 e4 e5 e6 e7 e8 e9 = omega arith
 
-  IsSized-settled : IsSized (settled l)
+  IsSized-settled : IsSized (settled l jobs)
   IsSized-settled =
       let size = length-map l.stripes (λ (s : StripeView). s.rows) ∙ work.stripes in
-      let ins = length-taken (fold with_added l.ins (jobs_in l.stripes)) (jobs_in l.stripes) ∙ length-added l.ins (jobs_in l.stripes) ∙ ap length work.ins in
+      let ins = length-taken (fold with_added l.ins jobs) jobs ∙ length-added l.ins jobs ∙ ap length work.ins in
       let present = ap length work.present in
       let longer = work.sound.sized.ins in
       let few = work.sound.sized.few in
@@ -243,7 +236,7 @@ module _ (g : GraphView) (js : List (List StripeJob)) (l : LooseView) (work : Is
         (λ t at. subst (λ k. stripe_copies (fresh (get_or g.stripes k []) (get_or js k [])) t ≡ copies p t) at (copies-began t ∙ of.triples t))
         (under g js l work m lt).runs))
 
-    copies-after : (t : Triple) → copies_in (settled l) t ≡ copies_through (copies p t) us t
+    copies-after : (t : Triple) → copies_in (settled l jobs) t ≡ copies_through (copies p t) us t
     copies-after t =
         let m = t.source % 64 in
         copies-settled t ∙ (under g js l work m (own-lt t)).copies t refl
@@ -251,7 +244,7 @@ module _ (g : GraphView) (js : List (List StripeJob)) (l : LooseView) (work : Is
         ∙ ap (λ x. copies_through (copies p t) x t) (sym (merge m (own-lt t))) ∙ sym (copies_through-own us (copies p t) t kinds)
 
     -- the applied updates are accepted one after another, and the settled graph is the one that they leave
-    pub IsOf-settled : AreAccepted p us × IsOf (settled l) (entered_each p us)
+    pub IsOf-settled : AreAccepted p us × IsOf (settled l jobs) (entered_each p us)
     IsOf-settled =
         let after = accepted-each p us fit_updates updates-run in (
           after.0,
@@ -259,13 +252,13 @@ module _ (g : GraphView) (js : List (List StripeJob)) (l : LooseView) (work : Is
             format = after.1.format ∙ of.format ∙ sym work.format;
             proper = proper-each p us of.proper;
             vertices = λ x. (
-                let same : vertex_in (settled l) x ≡ vertex_in g x = vertex_in-is (settled l) x ∙ ap (λ (b : List Bool). get_or b x false) work.present ∙ sym (vertex_in-is g x) in
+                let same : vertex_in (settled l jobs) x ≡ vertex_in g x = vertex_in-is (settled l jobs) x ∙ ap (λ (b : List Bool). get_or b x false) work.present ∙ sym (vertex_in-is g x) in
                 (λ h. (after.1.vertices x).1 ((of.vertices x).0 (sym same ∙ h)), λ h. same ∙ (of.vertices x).1 ((after.1.vertices x).0 h)));
             triples = λ t. copies-after t ∙ sym (after.1.copies t);
             transposed = λ t. transposed-settled t ∙ copies-after t ∙ sym (after.1.copies t);
             outs = λ u. subst (λ (r : RowView). IsAscending r.items) (sym (settled-row u)) ((under g js l work (u % 64) (omega arith)).ascending (u / 64));
-            ins = λ v. subst (λ (r : RowView). IsAscending r.items) (sym (in_row-is (settled l) v))
-                ((CanTake-after (fold with_added l.ins (jobs_in l.stripes)) (jobs_in l.stripes) [] (rw append-nil CanTake-work)).ascending v);
+            ins = λ v. subst (λ (r : RowView). IsAscending r.items) (sym (in_row-is (settled l jobs) v))
+                ((CanTake-after (fold with_added l.ins jobs) jobs [] (rw append-nil CanTake-work)).ascending v);
           },
         )
 
@@ -303,7 +296,7 @@ module _ (g : GraphView) (js : List (List StripeJob)) (l : LooseView) (work : Is
   pub IsMerge-by_stripes : IsMerge l (by_stripes l 64)
   IsMerge-by_stripes m lt = by_stripes-in 64 m lt (omega arith)
 
-  pub IsSound-settled : IsSound (settled l)
+  pub IsSound-settled : IsSound (settled l jobs)
   IsSound-settled =
-      IsSound-from_IsOf (settled l) (entered_each (listed g) (by_stripes l 64)) IsSized-settled
+      IsSound-from_IsOf (settled l jobs) (entered_each (listed g) (by_stripes l 64)) IsSized-settled
       (IsOf-settled (listed g) (by_stripes l 64) (IsOf-listed g work.sound) IsMerge-by_stripes).1

@@ -3,7 +3,7 @@ use Rattle.std.specs.Prelude.{⊤}
 use Rattle.std.proofs.Common.{◌≡◌, ◌≢◌, ℕ, ◌+◌, ◌-◌, ◌<◌, ◌≤◌, ◌/◌, ◌%◌, Bool, true, false, ◌&&◌, ◌==◌, if◌then◌else◌, ◌⊎◌, IsTrue, List, [], ◌∷◌, ◌++◌, length, get_or, set, map, arith, refl, inl, inr, sym, ap, subst, ◌∙◌, get_or-set_same, get_or-set_other}
 use Rattle.std.specs.List.{All, count_by, filter, flat_map}
 use Rattle.std.proofs.lemmas.Bool.{cases_Bool, cases_eq, eq-eqb, ne_eqb, both_ways}
-use Rattle.std.proofs.lemmas.List.{append-nil, ext_get_or, get_or-map, length-map, length-set}
+use Rattle.std.proofs.lemmas.List.{append-nil, ext_get_or, get_or_default, get_or-map, length-map, length-set}
 use Rattle.std.proofs.lemmas.List.Concat.{flat_map-append, flat_map-cons}
 use Rattle.std.proofs.lemmas.List.Elements.{All-from_get_or, All-get_or, All-nil, All-push}
 use Rattle.std.proofs.lemmas.List.Sums.{sum_by-set}
@@ -18,7 +18,7 @@ use Rattle.ris_base.proofs.RequestLemmas.{copies_through}
 use Rattle.ris_rows.specs.Neighbours.{IsAscending, copies_of}
 use Rattle.ris_rows.specs.RowView.{RowView, inserted, removed}
 use Rattle.ris_graph.specs.GraphView.{row_at}
-use Rattle.ris_graph.specs.Jobs.{is_job, stripe_of}
+use Rattle.ris_graph.specs.Jobs.{AreAscending, is_job, stripe_of}
 use Rattle.ris_graph.specs.Phase.{CanDo, Follows, Step, after_steps, applied_of}
 use Rattle.ris_graph.specs.Phase.Step.{Decline, Edit}
 use Rattle.ris_graph.specs.StripeView.{CanDecline, CanEdit, HasCopy, StripeView, declined, edited, is_applied, is_refusal, job_at, no_job, rows_after, waits}
@@ -219,6 +219,21 @@ count_by-same_jobs x old new same =
     let len = length-map new f in
     get_or-map f new i no_job 0 (omega arith) ∙ same.sessions i ∙ sym (get_or-map f old i no_job 0 (omega arith)))) in
     sym (count_by-sessions x new) ∙ ap (count_by (λ y. y == x)) equal ∙ count_by-sessions x old
+
+-- and they ascend as before
+pub AreAscending-same_jobs : (old new : List StripeJob) → IsSameJobs old new → AreAscending old → AreAscending new
+AreAscending-same_jobs old new same rise i j d lt less =
+    let size = same.size in
+    let more = rise i j no_job lt (omega arith) in
+    let first : (get_or new i d).session ≡ (get_or old i no_job).session = ap (λ (x : StripeJob). x.session) (get_or_default new i d no_job (omega arith)) ∙ same.sessions i in
+    let second : (get_or new j d).session ≡ (get_or old j no_job).session = ap (λ (x : StripeJob). x.session) (get_or_default new j d no_job less) ∙ same.sessions j in
+    omega arith
+
+-- a stripe without jobs notes nothing
+pub quiet-steps : (s : StripeView) (steps : List Step) → s.jobs ≡ [] → s.log ≡ [] → CanDo s steps → (after_steps s steps).log ≡ []
+quiet-steps s [] none log can = log
+quiet-steps s (Edit k ∷ steps) none log can = (let lt = can.0.within in let size = ap length none in absurd (omega arith))
+quiet-steps s (Decline k verdict ∷ steps) none log can = (let lt = can.0.within in let size = ap length none in absurd (omega arith))
 
 -- Stripes under way
 

@@ -72,6 +72,13 @@ counted-waiting jobs k d p lt waited passes =
     let one : one_if (waits (get_or jobs k d) && p (get_or jobs k d)) ≡ 1 = rw (waited, passes) refl in
     omega arith
 
+-- where a job waits, some do
+waiting-some : (jobs : List StripeJob) (k : ℕ) (d : StripeJob) → k < length jobs → waits (get_or jobs k d) ≡ true → 0 < count_by waits jobs
+waiting-some jobs k d lt waited =
+    let most = get_or-le-sum_by (λ (i : StripeJob). one_if (waits i)) jobs k d lt in
+    let one : one_if (waits (get_or jobs k d)) ≡ 1 = rw waited refl in
+    omega arith
+
 -- there is room for a job that waits
 pub HasEditRoom-waiting : (rows : List RowView) (jobs : List StripeJob) (k : ℕ) (d : StripeJob) → HasJobRoom rows jobs → k < length jobs → waits (get_or jobs k d) ≡ true
     → HasEditRoom rows (get_or jobs k d).update
@@ -144,7 +151,7 @@ pub IsStripe-decided : (rows new : List RowView) (jobs : List StripeJob) (log no
     → k < length jobs → old ≡ get_or jobs k old → waits old ≡ true → waits j ≡ false → j.update ≡ old.update
     → HasJobRoom new (set jobs k j) → vec_len noted ≤ vec_len log + 1 → vec_capacity noted ≡ vec_capacity log → IsStripe new (set jobs k j) noted
 IsStripe-decided rows new jobs log noted k old j stripe lt read waited decided same room longer capacity = record {
-  room = room;
+  room = λ _. room;
   limits = All-set (λ (i : StripeJob). first_past_limit (greatest_of Two) i.update ≡ None) jobs k j
       (rw same (subst (λ (i : StripeJob). first_past_limit (greatest_of Two) i.update ≡ None) (sym read) (stripe.limits k old lt))) stripe.limits;
   noted = (let whole = sum_by-set (λ (i : StripeJob). one_if (waits i)) jobs k j old lt in
@@ -164,7 +171,8 @@ pub IsStripe-edited : (rows : List RowView) (jobs : List StripeJob) (log noted :
     → HasCopy rows old.update → waits j ≡ false → j.update ≡ old.update → vec_len noted ≤ vec_len log + 1 → vec_capacity noted ≡ vec_capacity log
     → IsStripe (rows_after rows old.update) (set jobs k j) noted
 IsStripe-edited rows jobs log noted k old j stripe at copy decided same longer capacity =
-    let room = HasJobRoom-edited rows jobs k old j at.within (subst (λ (i : StripeJob). waits i ≡ true) at.read at.waiting) decided stripe.room
+    let waiting = subst (λ (i : StripeJob). waits i ≡ true) at.read at.waiting in
+    let room = HasJobRoom-edited rows jobs k old j at.within waiting decided (stripe.room (waiting-some jobs k old at.within waiting))
     (subst (λ (i : StripeJob). HasCopy rows i.update) at.read copy) in
     IsStripe-decided rows (rows_after rows old.update) jobs log noted k old j stripe at.within at.read at.waiting decided same
     (subst (λ (i : StripeJob). HasJobRoom (rows_after rows i.update) (set jobs k j)) (sym at.read) room) longer capacity
@@ -172,8 +180,9 @@ IsStripe-edited rows jobs log noted k old j stripe at copy decided same longer c
 pub IsStripe-declined : (rows : List RowView) (jobs : List StripeJob) (log noted : Vec ℕ Global) (k : ℕ) (old j : StripeJob) → IsStripe rows jobs log → IsRead rows jobs k old
     → waits j ≡ false → j.update ≡ old.update → vec_len noted ≤ vec_len log + 1 → vec_capacity noted ≡ vec_capacity log → IsStripe rows (set jobs k j) noted
 IsStripe-declined rows jobs log noted k old j stripe at decided same longer capacity =
+    let waiting = subst (λ (i : StripeJob). waits i ≡ true) at.read at.waiting in
     IsStripe-decided rows rows jobs log noted k old j stripe at.within at.read at.waiting decided same
-    (HasJobRoom-declined rows jobs k old j at.within (subst (λ (i : StripeJob). waits i ≡ true) at.read at.waiting) decided stripe.room) longer capacity
+    (HasJobRoom-declined rows jobs k old j at.within waiting decided (stripe.room (waiting-some jobs k old at.within waiting))) longer capacity
 
 -- a verdict that doesn't apply a job decides it
 pub waits-declined : (j : StripeJob) → (j.verdict ≡ NoEdge) ⊎ (j.verdict ≡ Bounced) → waits j ≡ false

@@ -1,10 +1,12 @@
 -- Rows in tables and in stripes: what a change of one row leaves of the others.
-use Rattle.std.proofs.Common.{◌≡◌, ◌≢◌, ℕ, ◌<◌, ◌≤◌, ◌/◌, ◌%◌, List, [], length, get_or, set, arith, inl, inr, sym, ap, subst, ◌∙◌, get_or-set_same, get_or-set_other}
+use Rattle.std.proofs.Common.{◌≡◌, ◌≢◌, ℕ, ◌<◌, ◌≤◌, ◌/◌, ◌%◌, List, [], length, get_or, map, set, arith, inl, inr, sym, ap, subst, ◌∙◌, get_or-set_same, get_or-set_other}
 use Rattle.std.specs.List.{All}
 use Rattle.std.proofs.lemmas.Bool.{cases_eq, cases_lt}
-use Rattle.std.proofs.lemmas.List.{length-set, get_or_read, get_or_past, set_past}
+use Rattle.std.proofs.lemmas.List.Elements.{All-set}
+use Rattle.std.proofs.lemmas.List.{get_or-map, length-map, length-set, map-set, get_or_read, get_or_past, set_past}
 use Rattle.ris_rows.specs.RowView.{RowView}
 use Rattle.ris_graph.specs.GraphView.{no_row, row_at}
+use Rattle.ris_graph.specs.StripeView.{IsIdle, StripeView}
 use Rattle.ris_graph.specs.Tables.{row_of, with_row, HasRow, IsRoomier}
 
 -- Tables of a stripe
@@ -68,12 +70,6 @@ HasRow-with_row t u x r has =
       | inr n ↦ (let same = ap length (get_or-set_other t (u % 64) (x % 64) (set rows (u / 64) r) [] n) in omega arith)
     ]
 
--- a write of a row in its table, where the row is told by the table after it
-pub table-kept : (t : List (List RowView)) (u : ℕ) (rows new : List RowView) → length t ≡ 64 → rows ≡ get_or t (u % 64) rows → HasRow t u
-    → new ≡ set rows (u / 64) (row_at new (u / 64)) → row_of (set t (u % 64) new) u ≡ row_at new (u / 64)
-table-kept t u rows new size read has is =
-    ap (λ (x : List (List RowView)). row_of x u) (table-written t u rows new (row_at new (u / 64)) size read is) ∙ row_of-same t u (row_at new (u / 64)) has
-
 -- tables that keep their rows and may have more places
 pub rows-kept : (old new : List (List RowView)) → ((m k : ℕ) → row_at (get_or new m []) k ≡ row_at (get_or old m []) k) → (u : ℕ) → row_of new u ≡ row_of old u
 unfolding row_of
@@ -111,6 +107,67 @@ row_of-none t none u =
       | inl lt ↦ ap (λ (rows : List RowView). row_at rows (u / 64)) (none (u % 64) [] lt)
       | inr past ↦ ap (λ (rows : List RowView). row_at rows (u / 64)) (get_or_past t (u % 64) [] past)
     ]
+
+-- Stripes
+
+-- the rows of stripes
+abbrev pub rows_of : List StripeView → List (List RowView)
+rows_of ss = map (λ s. s.rows) ss
+
+pub rows-read : (ss : List StripeView) (i : ℕ) (s : StripeView) → i < length ss → s ≡ get_or ss i s → s.rows ≡ get_or (rows_of ss) i s.rows
+rows-read ss i s lt read = ap (λ (x : StripeView). x.rows) read ∙ sym (get_or-map (λ (x : StripeView). x.rows) ss i s s.rows lt)
+
+-- the row of u stands in its stripe
+pub stripe-row : (ss : List StripeView) (u : ℕ) (s : StripeView) → length ss ≡ 64 → s ≡ get_or ss (u % 64) s → row_of (rows_of ss) u ≡ row_at s.rows (u / 64)
+stripe-row ss u s size read =
+    table-row (rows_of ss) u s.rows (length-map ss (λ (x : StripeView). x.rows) ∙ size) (rows-read ss (u % 64) s (omega arith) read)
+
+-- what a write of a row in its stripe makes
+pub stripe-written : (ss : List StripeView) (u : ℕ) (s new : StripeView) (r : RowView) → length ss ≡ 64 → s ≡ get_or ss (u % 64) s → new.rows ≡ set s.rows (u / 64) r
+    → rows_of (set ss (u % 64) new) ≡ with_row (rows_of ss) u r
+stripe-written ss u s new r size read is =
+    map-set (λ (x : StripeView). x.rows) ss (u % 64) new
+    ∙ table-written (rows_of ss) u s.rows new.rows r (length-map ss (λ (x : StripeView). x.rows) ∙ size) (rows-read ss (u % 64) s (omega arith) read) is
+
+-- and where the row is told by the stripe after it
+pub stripe-kept : (ss : List StripeView) (u : ℕ) (s new : StripeView) → length ss ≡ 64 → s ≡ get_or ss (u % 64) s → HasRow (rows_of ss) u
+    → new.rows ≡ set s.rows (u / 64) (row_at new.rows (u / 64)) → row_of (rows_of (set ss (u % 64) new)) u ≡ row_at new.rows (u / 64)
+stripe-kept ss u s new size read has is =
+    ap (λ (x : List (List RowView)). row_of x u) (stripe-written ss u s new (row_at new.rows (u / 64)) size read is) ∙ row_of-same (rows_of ss) u (row_at new.rows (u / 64)) has
+
+-- each stripe is idle
+pub stripe-idle : (ss : List StripeView) (i : ℕ) (s : StripeView) → length ss ≡ 64 → i < 64 → All IsIdle ss → s ≡ get_or ss i s → IsIdle s
+stripe-idle ss i s size lt idle read = subst IsIdle (sym read) (idle i s (omega arith))
+
+pub idle-written : (ss : List StripeView) (i : ℕ) (new : StripeView) → length ss ≡ 64 → All IsIdle ss → IsIdle new → (length (set ss i new) ≡ 64) × All IsIdle (set ss i new)
+idle-written ss i new size idle here = (length-set ss i new ∙ size, All-set IsIdle ss i new here idle)
+
+-- the place of a row is one of its stripe's
+pub stripe-place : (ss : List StripeView) (u : ℕ) (s : StripeView) → length ss ≡ 64 → s ≡ get_or ss (u % 64) s → HasRow (rows_of ss) u → u / 64 < length s.rows
+stripe-place ss u s size read has =
+    let lt : u % 64 < length ss = omega arith in
+    let same : get_or (rows_of ss) (u % 64) [] ≡ s.rows = get_or-map (λ (x : StripeView). x.rows) ss (u % 64) s [] lt ∙ ap (λ (x : StripeView). x.rows) (sym read) in
+    subst (λ (rows : List RowView). u / 64 < length rows) same has
+
+-- stripes with another one at i, which keeps its rows and may have more places
+pub stripes-kept : (ss : List StripeView) (i : ℕ) (s new : StripeView) → i < length ss → s ≡ get_or ss i s → ((k : ℕ) → row_at new.rows k ≡ row_at s.rows k)
+    → (m k : ℕ) → row_at (get_or (rows_of (set ss i new)) m []) k ≡ row_at (get_or (rows_of ss) m []) k
+stripes-kept ss i s new lt read same m k =
+    let size = length-map ss (λ (x : StripeView). x.rows) in
+    ap (λ (t : List (List RowView)). row_at (get_or t m []) k) (map-set (λ (x : StripeView). x.rows) ss i new)
+    ∙ set-kept (rows_of ss) i s.rows new.rows (omega arith) (rows-read ss i s lt read) same m k
+
+pub stripes-longer : (ss : List StripeView) (i : ℕ) (s new : StripeView) → i < length ss → s ≡ get_or ss i s → length s.rows ≤ length new.rows
+    → (m : ℕ) → length (get_or (rows_of ss) m []) ≤ length (get_or (rows_of (set ss i new)) m [])
+stripes-longer ss i s new lt read longer m =
+    let size = length-map ss (λ (x : StripeView). x.rows) in
+    subst (λ (t : List (List RowView)). length (get_or (rows_of ss) m []) ≤ length (get_or t m [])) (sym (map-set (λ (x : StripeView). x.rows) ss i new))
+    (set-longer (rows_of ss) i s.rows new.rows (omega arith) (rows-read ss i s lt read) longer m)
+
+pub stripe-set : (ss : List StripeView) (i : ℕ) (new : StripeView) → i < length ss → get_or (rows_of (set ss i new)) i [] ≡ new.rows
+stripe-set ss i new lt =
+    let size = length-map ss (λ (x : StripeView). x.rows) in
+    ap (λ (t : List (List RowView)). get_or t i []) (map-set (λ (x : StripeView). x.rows) ss i new) ∙ get_or-set_same (rows_of ss) i new.rows [] (omega arith)
 
 -- Room
 

@@ -1,5 +1,5 @@
 -- A graph with jobs, as loosen makes it.
-use Rattle.std.proofs.Common.{◌≡◌, ℕ, zero, suc, ◌+◌, ◌*◌, ◌<◌, ◌≤◌, ◌/◌, ◌%◌, ◌^◌, true, false, ◌&&◌, ◌==◌, List, [], ◌∷◌, None, length, get_or, arith, refl, inl, inr, sym, ap, subst, ◌∙◌}
+use Rattle.std.proofs.Common.{◌≡◌, ℕ, zero, suc, ◌+◌, ◌*◌, ◌<◌, ◌≤◌, ◌/◌, ◌%◌, ◌^◌, true, false, ◌&&◌, ◌==◌, List, [], ◌∷◌, None, length, get_or, set, arith, refl, inl, inr, sym, ap, subst, ◌∙◌}
 use Rattle.std.specs.List.{All, count_by}
 use Rattle.std.proofs.lemmas.Bool.{and_parts, both_ways, cases_lt, eqb-true}
 use Rattle.std.proofs.lemmas.List.Elements.{All-contains, All-get_or, All-weaker}
@@ -12,7 +12,7 @@ use Rattle.ris_base.specs.declared.updates.Update.TheVariants.{AddV, DelV, AddE,
 use Rattle.ris_rows.specs.Neighbours.{IsAscending, copies_of}
 use Rattle.ris_rows.specs.RowView.{RowView}
 use Rattle.ris_graph.specs.GraphView.{GraphView, out_row, row_at}
-use Rattle.ris_graph.specs.Jobs.{AreJobs, EachJob, IsJobOf, stripe_of}
+use Rattle.ris_graph.specs.Jobs.{AreJobs, EachJob, IsJobOf, by_stripe, in_order, stripe_of}
 use Rattle.ris_graph.specs.Phase.{HasPhaseRoom, IsReady, IsWorkOf, loosened, with_jobs}
 use Rattle.ris_graph.specs.Sound.{IsSound}
 use Rattle.ris_graph.specs.StripeView.{CanCarry, adds_at, adds_copy, fresh, no_stripe, waits}
@@ -104,15 +104,23 @@ get_or-with_jobs (r ∷ t) [] m size lt = absurd (omega arith)
 get_or-with_jobs (r ∷ t) (j ∷ js) zero size lt = refl
 get_or-with_jobs (r ∷ t) (j ∷ js) (suc m) size lt = get_or-with_jobs t js m (omega arith) (omega arith)
 
+pub with_jobs-set : (t : List (List RowView)) (js : List (List StripeJob)) (m : ℕ) (jobs : List StripeJob) → length t ≡ length js → m < length t
+    → with_jobs t (set js m jobs) ≡ set (with_jobs t js) m (fresh (get_or t m []) jobs)
+with_jobs-set [] js m jobs size lt = absurd (omega arith)
+with_jobs-set (r ∷ t) [] m jobs size lt = absurd (omega arith)
+with_jobs-set (r ∷ t) (j ∷ js) zero jobs size lt = refl
+with_jobs-set (r ∷ t) (j ∷ js) (suc m) jobs size lt = ap (λ l. fresh r j ∷ l) (with_jobs-set t js m jobs (omega arith) (omega arith))
+
 -- a graph that was loosened is its own and the jobs' work
-pub IsWorkOf-loosened : (g : GraphView) (js : List (List StripeJob)) → IsSound g → AreJobs js → EachJob (IsReady g) js → IsWorkOf g js (loosened g js)
-IsWorkOf-loosened g js sound are ready = record {
+pub IsWorkOf-loosened : (g : GraphView) (js : List (List StripeJob)) → IsSound g → AreJobs js → EachJob (IsReady g) js → by_stripe (in_order js) ≡ js → IsWorkOf g js (loosened g js)
+IsWorkOf-loosened g js sound are ready given = record {
   sound = sound;
   jobs = are;
   ready = ready;
   format = refl;
   ins = refl;
   present = refl;
+  given = given;
   stripes = length-with_jobs g.stripes js (sound.sized.stripes ∙ sym are.stripes) ∙ sound.sized.stripes;
   follows = λ m lt. record { steps = []; can = tt; is = refl };
 }

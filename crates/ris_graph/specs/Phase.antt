@@ -13,19 +13,20 @@ use Rattle.ris_base.specs.declared.updates.Update.{Update}
 use Rattle.ris_base.specs.declared.updates.Update.TheVariants.{AddV, DelV, AddE, DelE, SetW}
 use Rattle.ris_rows.specs.RowView.{RowView}
 use Rattle.ris_graph.specs.GraphView.{GraphView, out_row, in_row, vertex_in, copies_in}
-use Rattle.ris_graph.specs.Jobs.{AreJobs, EachJob, stripe_of}
+use Rattle.ris_graph.specs.Jobs.{AreJobs, EachJob, by_stripe, in_order, stripe_of}
 use Rattle.ris_graph.specs.Sound.{IsSound}
 use Rattle.ris_graph.specs.StripeView.{StripeView, is_applied, no_stripe, fresh, edited, declined, CanEdit, CanDecline}
 use Rattle.ris_graph.specs.declared.stripes.StripeJob.{StripeJob}
 
 -- Graphs with jobs
 
--- a graph whose stripes have jobs; its in rows lag behind
+-- a graph whose stripes have jobs, and the jobs as they were given, in the order of their sessions; its in rows lag behind
 pub record LooseView : Type 0 where
   pub format : Format
   pub stripes : List StripeView
   pub ins : List RowView
   pub present : List Bool
+  pub jobs : List StripeJob
 
 -- stripe m
 abbrev pub stripe_at : LooseView → ℕ → StripeView
@@ -39,7 +40,7 @@ with_jobs (rows ∷ rest) (jobs ∷ js) = fresh rows jobs ∷ with_jobs rest js
 
 -- the graph whose stripes have the jobs
 abbrev pub loosened : GraphView → List (List StripeJob) → LooseView
-loosened g js = record { format = g.format; stripes = with_jobs g.stripes js; ins = g.ins; present = g.present }
+loosened g js = record { format = g.format; stripes = with_jobs g.stripes js; ins = g.ins; present = g.present; jobs = in_order js }
 
 -- the vertices that an update names are in the graph
 abbrev pub HasEnds : GraphView → Update → Type 0
@@ -103,6 +104,7 @@ pub record IsWorkOf (g : GraphView) (js : List (List StripeJob)) (l : LooseView)
   pub format : l.format ≡ g.format
   pub ins : l.ins ≡ g.ins
   pub present : l.present ≡ g.present
+  pub given : by_stripe l.jobs ≡ js
   pub stripes : length l.stripes ≡ 64
   pub follows : (m : ℕ) → m < 64 → Follows (stripe_at (loosened g js) m) (stripe_at l m)
 

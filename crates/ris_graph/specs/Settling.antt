@@ -1,18 +1,16 @@
 -- What settling makes of the in rows and of a table of verdicts.
-use Rattle.std.specs.Prelude.{⊤, ℕ, ◌+◌, ◌<◌, ◌≤◌, ◌^◌, if◌then◌else◌, List, length, slice_set}
-use Rattle.std.specs.List.{All, flat_map}
+use Rattle.std.specs.Prelude.{◌≡◌, ⊤, ℕ, ◌+◌, ◌<◌, ◌≤◌, ◌^◌, if◌then◌else◌, List, [], length, slice_index_or, slice_set}
+use Rattle.std.specs.List.{All}
 use Rattle.ris_base.specs.declared.events.Verdict.{Verdict}
+use Rattle.ris_base.specs.declared.events.Verdict.TheVariants.{Waiting}
 use Rattle.ris_base.specs.declared.updates.Update.{Update}
 use Rattle.ris_base.specs.declared.updates.Update.TheVariants.{AddV, DelV, AddE, DelE, SetW}
 use Rattle.ris_rows.specs.Neighbours.{IsAscending, copies_of}
 use Rattle.ris_rows.specs.RowView.{RowView, inserted, removed}
 use Rattle.ris_graph.specs.GraphView.{row_at}
-use Rattle.ris_graph.specs.StripeView.{StripeView, AreWithin, is_applied}
+use Rattle.ris_graph.specs.Jobs.{stripe_of}
+use Rattle.ris_graph.specs.StripeView.{AreWithin, is_applied, no_job}
 use Rattle.ris_graph.specs.declared.stripes.StripeJob.{StripeJob}
-
--- the jobs of all stripes
-abbrev pub jobs_in : List StripeView → List StripeJob
-jobs_in stripes = flat_map (λ s. s.jobs) stripes
 
 -- the in rows with the copy that an update adds, and without the one that it takes
 abbrev pub copy_added : List RowView → Update → List RowView
@@ -39,6 +37,14 @@ with_taken ins j = if is_applied j then copy_taken ins j.update else ins
 -- a table by session with the verdict of a job
 abbrev pub with_told : List Verdict → StripeJob → List Verdict
 with_told verdicts j = slice_set verdicts j.session j.verdict
+
+-- a job with the verdict that a table by session has for it
+abbrev pub judged : List Verdict → StripeJob → StripeJob
+judged verdicts j = record j { verdict = slice_index_or verdicts j.session Waiting }
+
+-- each stripe that has jobs is that of one of the jobs in a list
+abbrev pub HasPlaces : List (List StripeJob) → List StripeJob → Type 0
+HasPlaces js jobs = (m : ℕ) → 0 < length (slice_index_or js m []) → (k : ℕ) × (k < length jobs) × (stripe_of (slice_index_or jobs k no_job).update ≡ m)
 
 -- where an update adds a copy, its in row has room for n inserts, and its number of copies for n more
 abbrev pub HasAddRoom : List RowView → ℕ → Update → Type 0

@@ -139,9 +139,10 @@ HasEditRoom rows (SetW u v w w2) = ⊤
 abbrev pub AreWithin : List StripeJob → Type 0
 AreWithin jobs = All (λ j. first_past_limit (greatest_of Two) j.update ≡ None) jobs
 
--- the rows of a stripe have room for the jobs that wait, and so has the log; the numbers of the updates are within the limits
+-- where a job of a stripe waits, its rows have room for those that do, and so has the log; the numbers of the updates are within
+-- the limits
 pub record IsStripe (rows : List RowView) (jobs : List StripeJob) (log : Vec ℕ Global) : Type 0 where
-  pub room : HasJobRoom rows jobs
+  pub room : 0 < count_by waits jobs → HasJobRoom rows jobs
   pub limits : AreWithin jobs
   pub noted : vec_len log + count_by waits jobs ≤ vec_capacity log
 
@@ -150,7 +151,13 @@ pub record CanCarry (rows : List RowView) (jobs : List StripeJob) : Type 0 where
   pub room : HasJobRoom rows jobs
   pub limits : AreWithin jobs
 
--- a stripe has the memory for 64 jobs, and no more jobs than that
+-- a stripe has no jobs, and the memory for 64
+pub record IsIdle (s : StripeView) : Type 0 where
+  pub jobs : s.jobs ≡ []
+  pub log : s.log ≡ []
+  pub memory : s.job_room ≡ 64
+
+-- a stripe has the memory for 64 jobs, and a log only where it has jobs
 pub record IsWhole (s : StripeView) : Type 0 where
   pub memory : s.job_room ≡ 64
-  pub few : length s.jobs ≤ 64
+  pub quiet : s.jobs ≡ [] → s.log ≡ []

@@ -96,7 +96,8 @@ impl<M> Graph<M> {
 
     /// The format of the graph.
     pub fn format(&self) -> Format
-        ensures { result ≡ self.now.format }
+        ensures value { result ≡ self.now.format }
+        ensures of { (p : PlainGraph) × IsOf self.now p }
     {
         self.format
     }

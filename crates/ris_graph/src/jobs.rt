@@ -1,9 +1,10 @@
-ghost use Rattle.std.specs.Prelude.{◌≡◌, ◌<◌, ◌≤◌, ℕ, ◌∷◌, ◌++◌, [], None, IsTrue, IfOk, length, replicate};
+ghost use Rattle.std.specs.Prelude.{◌≡◌, ◌<◌, ◌≤◌, None, IsTrue, IfOk, length, take, drop};
+ghost use Rattle.std.specs.List.{All};
 ghost use Rattle.ris_base.specs.Effect.{first_past_limit};
 ghost use Rattle.ris_base.specs.Limits.{greatest_of};
 ghost use Rattle.ris_base.specs.declared.events.Verdict.TheVariants.{Waiting};
 ghost use Rattle.ris_base.specs.declared.graphs.Format.TheVariants.{Two};
-ghost use Rattle.ris_graph.specs.Jobs.{HasSession, IsJob, is_job, no_jobs, stripe_of, with_job};
+ghost use Rattle.ris_graph.specs.Jobs.{AreAscending, HasSession, IsJob, is_job, no_jobs, stripe_of, with_job};
 
 use crate::outs::STRIPES;
 use crate::stripes::StripeJob;
@@ -12,70 +13,26 @@ use std::alloc::Global;
 use std::marker::Model;
 
 /// The greatest number of jobs: one for each session.
-const JOBS: usize = 64;
-
-/// The jobs of a stripe, with the memory for 64 and for a log of 64 sessions.
-#[derive(Drop)]
-pub(crate) struct JobList {
-    pub(crate) jobs: Vec<StripeJob>,
-    pub(crate) log: Vec<u32>,
-}
-
-impl Model for JobList {
-    ghost use Rattle.std.specs.Prelude.{◌≡◌, ◌≤◌, List, [], length, vec_capacity};
-    ghost use Rattle.ris_graph.specs.declared.stripes.StripeJob.{StripeJob};
-
-    ghost Value = { List StripeJob };
-
-    ghost view = { λ l. l.jobs.items };
-
-    ghost invariant = { λ l. (length l.jobs.items ≤ 64) × (64 ≤ vec_capacity l.jobs) × (l.log.items ≡ []) × (64 ≤ vec_capacity l.log) };
-}
-
-impl JobList {
-    /// A list without jobs.
-    fn new(alloc: Global) -> Result<JobList, NoMemory>
-        ensures { IfOk result (λ l. l ≡ []) }
-    {
-        let jobs = Vec::with_capacity(alloc, JOBS)?;
-        let log = Vec::with_capacity(alloc, JOBS)?;
-        Ok(JobList { jobs, log })
-    }
-
-    /// One job more, at the end.
-    fn push(&mut self, job: StripeJob)
-        requires { length self.old < 64 }
-        ensures { self.new ≡ self.old ++ job ∷ [] }
-    {
-        self.jobs.push_reserved(job);
-    }
-
-    /// Takes all jobs out.
-    fn clear(&mut self)
-        ensures { self.new ≡ [] }
-    {
-        self.jobs.clear();
-    }
-}
+pub(crate) const JOBS: usize = 64;
 
 /// Updates that sessions ask for, at most one of each session, by the stripe of the vertex or of the edge's source; with
-/// the verdict of each. It has room for 64 jobs in each of 64 stripes.
+/// the verdict of each. It has room for 64 jobs.
 #[derive(Drop)]
 pub struct Jobs {
-    pub(crate) lists: Vec<JobList>,
+    pub(crate) jobs: Vec<StripeJob>,
     pub(crate) verdicts: Vec<Verdict>,
 }
 
 impl Model for Jobs {
-    ghost use Rattle.std.specs.Prelude.{List};
-    ghost use Rattle.ris_graph.specs.Jobs.{AreJobs, AreTold};
+    ghost use Rattle.std.specs.Prelude.{◌≤◌, List, vec_capacity};
+    ghost use Rattle.ris_graph.specs.Jobs.{AreAscending, AreJobs, AreTold, by_stripe};
     ghost use Rattle.ris_graph.specs.declared.stripes.StripeJob.{StripeJob};
 
     ghost Value = { List (List StripeJob) };
 
-    ghost view = { λ j. j.lists.items };
+    ghost view = { λ j. by_stripe j.jobs.items };
 
-    ghost invariant = { λ j. AreJobs j.lists.items × AreTold j.lists.items j.verdicts.items };
+    ghost invariant = { λ j. AreJobs (by_stripe j.jobs.items) × AreTold (by_stripe j.jobs.items) j.verdicts.items × AreAscending j.jobs.items × (64 ≤ vec_capacity j.jobs) };
 }
 
 impl Jobs {
@@ -85,16 +42,14 @@ impl Jobs {
     pub fn new(alloc: Global) -> Result<Jobs, NoMemory>
         ensures { IfOk result (λ j. j ≡ no_jobs) }
     {
-        let mut lists = Vec::with_capacity(alloc, STRIPES)?;
-        for _ in 0..STRIPES {
-            lists.push(JobList::new(alloc)?)?;
-        }
+        let jobs = Vec::with_capacity(alloc, JOBS)?;
         let verdicts = vec![in alloc; Verdict::Waiting; JOBS]?;
-        Ok(Jobs { lists, verdicts })
+        Ok(Jobs { jobs, verdicts })
     }
 
     /// One job more, which waits: an `AddV`, `AddE` or `DelE` within the limits of format two, of a session that has
-    /// none. It takes constant time and no memory.
+    /// none. It comes behind the jobs of lesser sessions of its stripe. It costs a binary search among at most 64 jobs and
+    /// the moves of those of greater sessions, and takes no memory.
     pub fn add(&mut self, session: u32, update: Update)
         requires session { session < 64 }
         requires new { ¬ (HasSession self.old session) }
@@ -102,12 +57,13 @@ impl Jobs {
         requires limits { first_past_limit (greatest_of Two) update ≡ None }
         ensures { self.new ≡ with_job self.old session update }
     {
-        let stripe = stripe_of(update);
-        self.lists[stripe].push(StripeJob {
+        let at = place(&self.jobs, session);
+        let job = StripeJob {
             session,
             update,
             verdict: Verdict::Waiting,
-        });
+        };
+        let _ = self.jobs.insert(at, job);
         self.verdicts[session as usize] = Verdict::Waiting;
     }
 
@@ -123,14 +79,22 @@ impl Jobs {
     pub fn clear(&mut self)
         ensures { self.new ≡ no_jobs }
     {
-        for k in 0..STRIPES {
-            self.lists[k].clear();
-        }
+        self.jobs.clear();
     }
 }
 
+/// The place of a session among jobs whose sessions ascend: behind those of lesser sessions. A binary search.
+fn place(jobs: &[StripeJob], session: u32) -> usize
+    requires { AreAscending jobs.now }
+    ensures within { result ≤ length jobs.now }
+    ensures lesser { All (λ j. j.session < session) (take result jobs.now) }
+    ensures greater { All (λ j. session ≤ j.session) (drop result jobs.now) }
+{
+    jobs.partition_point(|job| job.session < session)
+}
+
 /// The stripe of an update: that of its vertex, or of its edge's source.
-fn stripe_of(update: Update) -> usize
+pub(crate) fn stripe_of(update: Update) -> usize
     ensures { result ≡ stripe_of update }
 {
     let x = match update {

@@ -1,12 +1,10 @@
-ghost use Rattle.std.specs.Prelude.{◌≡◌, ◌+◌, ◌-◌, ◌*◌, ◌^◌, ◌<◌, ◌≤◌, ℕ, [], length, replicate, slice_index_or, OnOk, IfOk};
+ghost use Rattle.std.specs.Prelude.{◌≡◌, ◌+◌, ◌-◌, ◌*◌, ◌^◌, ◌<◌, ◌≤◌, ℕ, length, OnOk, IfOk};
 ghost use Rattle.ris_rows.specs.Neighbours.{IsAscending, copies_of};
 ghost use Rattle.ris_rows.specs.RowView.{with_count, inserted};
-ghost use Rattle.ris_graph.specs.GraphView.{row_at};
 ghost use Rattle.ris_graph.specs.Tables.{row_of, with_row, HasRow, IsRoomier};
 
 use crate::stripes::Stripe;
-use crate::tables::RowTable;
-use ris_base::NoMemory;
+use ris_base::{NoMemory, Triple};
 use ris_rows::Cursor;
 use std::alloc::Global;
 use std::marker::Model;
@@ -14,23 +12,24 @@ use std::marker::Model;
 /// The number of stripes.
 pub(crate) const STRIPES: usize = 64;
 
-/// The out rows of a graph, by vertex, in 64 stripes: the row of the vertex u stands in the stripe u mod 64 at the place
-/// u div 64. Beside them it keeps the memory for the stripes while they have jobs.
+/// The out rows of a graph, by vertex, in 64 stripes without jobs: the row of the vertex u stands in the stripe u mod 64 at
+/// the place u div 64. Each stripe has the memory for 64 jobs.
 #[derive(Drop)]
 pub(crate) struct OutRows<M> {
-    pub(crate) tables: Vec<RowTable<M>>,
     pub(crate) stripes: Vec<Stripe<M>>,
 }
 
 impl<M> Model for OutRows<M> {
-    ghost use Rattle.std.specs.Prelude.{◌≡◌, ◌≤◌, List, [], length, vec_capacity};
+    ghost use Rattle.std.specs.Prelude.{◌≡◌, List, length, map};
+    ghost use Rattle.std.specs.List.{All};
     ghost use Rattle.ris_rows.specs.RowView.{RowView};
+    ghost use Rattle.ris_graph.specs.StripeView.{IsIdle};
 
     ghost Value = { List (List RowView) };
 
-    ghost view = { λ o. o.tables.items };
+    ghost view = { λ o. map (λ s. s.rows) o.stripes.items };
 
-    ghost invariant = { λ o. (length o.tables.items ≡ 64) × (o.stripes.items ≡ []) × (64 ≤ vec_capacity o.stripes) };
+    ghost invariant = { λ o. (length o.stripes.items ≡ 64) × All IsIdle o.stripes.items };
 }
 
 impl<M> OutRows<M> {
@@ -41,12 +40,11 @@ impl<M> OutRows<M> {
         ensures stripes { IfOk result (λ o. length o ≡ 64) }
         ensures rows { IfOk result (λ o. (u : ℕ) → row_of o u ≡ no_row) }
     {
-        let mut tables = Vec::with_capacity(alloc, STRIPES)?;
+        let mut stripes = Vec::with_capacity(alloc, STRIPES)?;
         for _ in 0..STRIPES {
-            tables.push(RowTable::new(alloc))?;
+            stripes.push(Stripe::new(alloc)?)?;
         }
-        let stripes = Vec::with_capacity(alloc, STRIPES)?;
-        Ok(OutRows { tables, stripes })
+        Ok(OutRows { stripes })
     }
 
     /// Makes rows for the vertices below 64 times `places`. After `NoMemory` every row is as before, and there may be more.
@@ -57,7 +55,7 @@ impl<M> OutRows<M> {
         ensures ok { OnOk result ((u : ℕ) → u < 64 * places → HasRow self.new u) }
     {
         for k in 0..STRIPES {
-            self.tables[k].grow(alloc, places)?;
+            self.stripes[k].grow(alloc, places)?;
         }
         Ok(())
     }
@@ -66,8 +64,12 @@ impl<M> OutRows<M> {
     pub fn count(&self, u: u32, end: u32, weight: u64) -> u64
         ensures { result ≡ copies_of (row_of self.now u).items end weight }
     {
-        let table = &self.tables[u as usize % STRIPES];
-        table.count(u as usize / STRIPES, end, weight)
+        let stripe = &self.stripes[u as usize % STRIPES];
+        stripe.copies(Triple {
+            source: u,
+            target: end,
+            weight,
+        })
     }
 
     /// A cursor before the first neighbour of `u`.
@@ -75,8 +77,8 @@ impl<M> OutRows<M> {
         ensures items { result ≡ (row_of self.now u).items }
         ensures ascending { IsAscending result }
     {
-        let table = &self.tables[u as usize % STRIPES];
-        table.cursor(u as usize / STRIPES)
+        let stripe = &self.stripes[u as usize % STRIPES];
+        stripe.cursor(u as usize / STRIPES)
     }
 
     /// Makes room for `n` inserts in the row of `u`, as `Row::reserve` does.
@@ -86,8 +88,8 @@ impl<M> OutRows<M> {
         ensures row { IsRoomier (row_of self.old u) (row_of self.new u) }
         ensures room { OnOk result (n ≤ (row_of self.new u).spare) }
     {
-        let table = &mut self.tables[u as usize % STRIPES];
-        table.reserve(u as usize / STRIPES, n)
+        let stripe = &mut self.stripes[u as usize % STRIPES];
+        stripe.reserve(u as usize / STRIPES, n)
     }
 
     /// Sets the number of copies of the neighbour (end, weight) of `u`, as `Row::put` does.
@@ -96,8 +98,8 @@ impl<M> OutRows<M> {
         requires room { copies_of (row_of self.old u).items end weight ≡ 0 → 1 ≤ copies → 1 ≤ (row_of self.old u).spare }
         ensures { self.new ≡ with_row self.old u (with_count (row_of self.old u) end weight copies) }
     {
-        let table = &mut self.tables[u as usize % STRIPES];
-        table.put(u as usize / STRIPES, end, weight, copies);
+        let stripe = &mut self.stripes[u as usize % STRIPES];
+        stripe.put(u as usize / STRIPES, end, weight, copies);
     }
 
     /// One copy more of the neighbour (end, weight) of `u`, as `Row::append` adds it.
@@ -107,7 +109,7 @@ impl<M> OutRows<M> {
         requires few { copies_of (row_of self.old u).items end weight < 2 ^ 64 - 1 }
         ensures { self.new ≡ with_row self.old u (inserted (row_of self.old u) end weight) }
     {
-        let table = &mut self.tables[u as usize % STRIPES];
-        table.append(u as usize / STRIPES, end, weight);
+        let stripe = &mut self.stripes[u as usize % STRIPES];
+        stripe.append(u as usize / STRIPES, end, weight);
     }
 }

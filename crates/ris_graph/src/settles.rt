@@ -1,26 +1,16 @@
-ghost use Rattle.std.specs.Prelude.{◌≡◌, ◌<◌, None, length, fold};
+ghost use Rattle.std.specs.Prelude.{◌≡◌, ◌<◌, None, fold, length, map, vec_capacity};
 ghost use Rattle.std.specs.List.{All};
 ghost use Rattle.ris_base.specs.Effect.{first_past_limit};
 ghost use Rattle.ris_base.specs.Limits.{greatest_of};
 ghost use Rattle.ris_base.specs.declared.graphs.Format.TheVariants.{Two};
-ghost use Rattle.ris_graph.specs.Settling.{CanAdd, CanTake, HasAddRoom, HasInRow, jobs_in, with_added, with_taken, with_told};
+ghost use Rattle.ris_graph.specs.Settling.{CanAdd, CanTake, HasAddRoom, HasInRow, judged, with_added, with_taken, with_told};
 
-use crate::stripes::{Stripe, StripeJob};
+use crate::stripes::StripeJob;
 use crate::tables::RowTable;
 use ris_base::{Update, Verdict};
 
-/// Adds to the in rows the copies that the applied jobs of all stripes added. It costs an insert for each.
-pub(crate) fn add_all<M>(ins: &mut RowTable<M>, stripes: &[Stripe<M>])
-    requires { CanAdd ins.old (jobs_in stripes.now) }
-    ensures { ins.new ≡ fold with_added ins.old (jobs_in stripes.now) }
-{
-    for stripe in stripes {
-        add_copies(ins, stripe.job_list());
-    }
-}
-
-/// Adds to the in rows the copies that applied jobs added.
-fn add_copies<M>(ins: &mut RowTable<M>, jobs: &[StripeJob])
+/// Adds to the in rows the copies that applied jobs added. It costs an insert for each.
+pub(crate) fn add_copies<M>(ins: &mut RowTable<M>, jobs: &[StripeJob])
     requires { CanAdd ins.old jobs.now }
     ensures { ins.new ≡ fold with_added ins.old jobs.now }
 {
@@ -43,18 +33,8 @@ fn add_copy<M>(ins: &mut RowTable<M>, job: StripeJob)
     }
 }
 
-/// Takes from the in rows the copies that the applied jobs of all stripes took. It costs a removal for each.
-pub(crate) fn take_all<M>(ins: &mut RowTable<M>, stripes: &[Stripe<M>])
-    requires { CanTake ins.old (jobs_in stripes.now) }
-    ensures { ins.new ≡ fold with_taken ins.old (jobs_in stripes.now) }
-{
-    for stripe in stripes {
-        take_copies(ins, stripe.job_list());
-    }
-}
-
-/// Takes from the in rows the copies that applied jobs took.
-fn take_copies<M>(ins: &mut RowTable<M>, jobs: &[StripeJob])
+/// Takes from the in rows the copies that applied jobs took. It costs a removal for each.
+pub(crate) fn take_copies<M>(ins: &mut RowTable<M>, jobs: &[StripeJob])
     requires { CanTake ins.old jobs.now }
     ensures { ins.new ≡ fold with_taken ins.old jobs.now }
 {
@@ -77,18 +57,19 @@ fn take_copy<M>(ins: &mut RowTable<M>, job: StripeJob)
     }
 }
 
-/// Notes the verdicts of the jobs of all stripes, by session.
-pub(crate) fn tell_all<M>(verdicts: &mut Vec<Verdict>, stripes: &[Stripe<M>])
-    requires { All (λ j. j.session < length verdicts.old.items) (jobs_in stripes.now) }
-    ensures { verdicts.new.items ≡ fold with_told verdicts.old.items (jobs_in stripes.now) }
+/// Gives each job the verdict of its session.
+pub(crate) fn judge(jobs: &mut Vec<StripeJob>, verdicts: &[Verdict])
+    requires { All (λ j. j.session < length verdicts.now) jobs.old.items }
+    ensures jobs { jobs.new.items ≡ map (judged verdicts.now) jobs.old.items }
+    ensures capacity { vec_capacity jobs.new ≡ vec_capacity jobs.old }
 {
-    for stripe in stripes {
-        tell(verdicts, stripe.job_list());
+    for k in 0..jobs.len() {
+        jobs[k].verdict = verdicts[jobs[k].session as usize];
     }
 }
 
 /// Notes the verdicts of jobs, by session.
-fn tell(verdicts: &mut Vec<Verdict>, jobs: &[StripeJob])
+pub(crate) fn tell(verdicts: &mut Vec<Verdict>, jobs: &[StripeJob])
     requires { All (λ j. j.session < length verdicts.old.items) jobs.now }
     ensures { verdicts.new.items ≡ fold with_told verdicts.old.items jobs.now }
 {

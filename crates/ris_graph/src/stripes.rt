@@ -1,15 +1,19 @@
-ghost use Rattle.std.specs.Prelude.{◌≡◌, ◌+◌, ◌<◌, ◌≤◌, ◌/◌, ◌∷◌, ◌++◌, [], None, Some, length, slice_get, vec_len, vec_capacity};
+ghost use Rattle.std.specs.Prelude.{◌≡◌, ℕ, ◌+◌, ◌-◌, ◌^◌, ◌<◌, ◌≤◌, ◌/◌, ◌∷◌, ◌++◌, [], None, Some, OnOk, IfOk, length, slice_get, slice_set, vec_len, vec_capacity};
 ghost use Rattle.ris_base.specs.Effect.{first_past_limit};
 ghost use Rattle.ris_base.specs.Limits.{greatest_of};
 ghost use Rattle.ris_base.specs.declared.graphs.Format.TheVariants.{Two};
-ghost use Rattle.ris_rows.specs.Neighbours.{copies_of};
+ghost use Rattle.ris_rows.specs.Neighbours.{IsAscending, copies_of};
+ghost use Rattle.ris_rows.specs.RowView.{with_count, inserted};
 ghost use Rattle.ris_graph.specs.GraphView.{row_at};
-ghost use Rattle.ris_graph.specs.StripeView.{rows_after, HasCopy, HasEditRoom, HasJobRoom, AreWithin, fresh, edited, declined, CanEdit, CanDecline};
+ghost use Rattle.ris_graph.specs.StripeView.{rows_after, HasCopy, HasEditRoom, IsIdle, CanCarry, fresh, edited, declined, CanEdit, CanDecline};
+ghost use Rattle.ris_graph.specs.Tables.{IsRoomier};
 
-use crate::jobs::JobList;
+use crate::jobs::JOBS;
 use crate::outs::STRIPES;
 use crate::tables::RowTable;
-use ris_base::{Triple, Update, Verdict};
+use ris_base::{NoMemory, Triple, Update, Verdict};
+use ris_rows::Cursor;
+use std::alloc::Global;
 use std::marker::Model;
 
 /// An update of a session, and what a parallel phase made of it.
@@ -45,30 +49,87 @@ impl<M> Model for Stripe<M> {
 impl<M> Stripe<M> {
     ghost use Rattle.ris_graph.specs.declared.stripes.StripeJob.{StripeJob};
 
-    /// The stripe of these rows and jobs.
-    pub(crate) fn new(rows: RowTable<M>, list: JobList) -> Stripe<M>
-        requires room { HasJobRoom rows list }
-        requires limits { AreWithin list }
-        ensures { result ≡ fresh rows list }
+    /// A stripe without rows and jobs, with the memory for 64 jobs.
+    pub(crate) fn new(alloc: Global) -> Result<Stripe<M>, NoMemory>
+        ensures { IfOk result (λ s. s ≡ fresh [] []) }
     {
-        let JobList { jobs, log } = list;
-        Stripe { rows, jobs, log }
+        let rows = RowTable::new(alloc);
+        let jobs = Vec::with_capacity(alloc, JOBS)?;
+        let log = Vec::with_capacity(alloc, JOBS)?;
+        Ok(Stripe { rows, jobs, log })
     }
 
-    /// Its rows and its jobs, without its log.
-    pub(crate) fn into_parts(self) -> (RowTable<M>, JobList)
-        requires room { self.job_room ≡ 64 }
-        requires few { length self.jobs ≤ 64 }
-        ensures rows { result.0 ≡ self.rows }
-        ensures jobs { result.1 ≡ self.jobs }
+    /// Makes `n` places for rows at least, as `RowTable::grow` does.
+    pub(crate) fn grow(&mut self, alloc: Global, n: usize) -> Result<(), NoMemory>
+        requires { IsIdle self.old }
+        ensures idle { IsIdle self.new }
+        ensures rows { (k : ℕ) → row_at self.new.rows k ≡ row_at self.old.rows k }
+        ensures longer { length self.old.rows ≤ length self.new.rows }
+        ensures ok { OnOk result (n ≤ length self.new.rows) }
     {
-        let Stripe {
-            rows,
-            jobs,
-            mut log,
-        } = self;
-        log.clear();
-        (rows, JobList { jobs, log })
+        self.rows.grow(alloc, n)
+    }
+
+    /// A cursor before the first neighbour of the row at a place.
+    pub(crate) fn cursor(&self, place: usize) -> Cursor<'_, M>
+        ensures items { result ≡ (row_at self.now.rows place).items }
+        ensures ascending { IsAscending result }
+    {
+        self.rows.cursor(place)
+    }
+
+    /// Makes room for `n` inserts in the row at a place, as `Row::reserve` does.
+    pub(crate) fn reserve(&mut self, place: usize, n: u64) -> Result<(), NoMemory>
+        requires idle { IsIdle self.old }
+        requires place { place < length self.old.rows }
+        ensures idle { IsIdle self.new }
+        ensures table { self.new.rows ≡ slice_set self.old.rows place (row_at self.new.rows place) }
+        ensures row { IsRoomier (row_at self.old.rows place) (row_at self.new.rows place) }
+        ensures room { OnOk result (n ≤ (row_at self.new.rows place).spare) }
+    {
+        self.rows.reserve(place, n)
+    }
+
+    /// Sets the number of copies of a neighbour in the row at a place, as `Row::put` does.
+    pub(crate) fn put(&mut self, place: usize, end: u32, weight: u64, copies: u64)
+        requires idle { IsIdle self.old }
+        requires place { place < length self.old.rows }
+        requires room { copies_of (row_at self.old.rows place).items end weight ≡ 0 → 1 ≤ copies → 1 ≤ (row_at self.old.rows place).spare }
+        ensures idle { IsIdle self.new }
+        ensures table { self.new.rows ≡ slice_set self.old.rows place (with_count (row_at self.old.rows place) end weight copies) }
+    {
+        self.rows.put(place, end, weight, copies);
+    }
+
+    /// One copy more of a neighbour in the row at a place, as `Row::append` adds it.
+    pub(crate) fn append(&mut self, place: usize, end: u32, weight: u64)
+        requires idle { IsIdle self.old }
+        requires place { place < length self.old.rows }
+        requires room { 1 ≤ (row_at self.old.rows place).spare }
+        requires few { copies_of (row_at self.old.rows place).items end weight < 2 ^ 64 - 1 }
+        ensures idle { IsIdle self.new }
+        ensures table { self.new.rows ≡ slice_set self.old.rows place (inserted (row_at self.old.rows place) end weight) }
+    {
+        self.rows.append(place, end, weight);
+    }
+
+    /// One job more, at the end, in a stripe with the memory for 64. Constant time.
+    pub(crate) fn add(&mut self, job: StripeJob)
+        requires memory { self.old.job_room ≡ 64 }
+        requires log { self.old.log ≡ [] }
+        requires few { length self.old.jobs < 64 }
+        requires carries { CanCarry self.old.rows (self.old.jobs ++ job ∷ []) }
+        ensures { self.new ≡ fresh self.old.rows (self.old.jobs ++ job ∷ []) }
+    {
+        self.jobs.push_reserved(job);
+    }
+
+    /// Takes all jobs out and empties the log. It keeps their memory.
+    pub(crate) fn clear(&mut self)
+        ensures { self.new ≡ record self.old { jobs = []; log = [] } }
+    {
+        self.jobs.clear();
+        self.log.clear();
     }
 
     /// Its jobs, as a slice.

@@ -69,7 +69,7 @@ either true b f low r e = inl (refl, cc)
 either false true f low r e = inr (refl, refl, cc)
 either false false f low r e = absurd (cc)
 
-to_some_and : {X : Type 0} (P : X → Type 0) (o : Option X) (x : X) → o ≡ Some x → P x → IsSomeAnd o P
+pub to_some_and : {X : Type 0} (P : X → Type 0) (o : Option X) (x : X) → o ≡ Some x → P x → IsSomeAnd o P
 to_some_and P None x e h = absurd (cc)
 to_some_and P (Some y) x e h = let same : x ≡ y = cc in subst P same h
 
@@ -93,6 +93,9 @@ module _ (h : HistoryView) (opening : PlainGraph) (specs : List Spec) (start : S
   pub analyses-of : h.table.analyses ≡ length start.forests
   unfolding opened opened_table
   analyses-of = ap (λ (k : HistoryView). k.table.analyses) s.held ∙ analyses-fold (opened start) records
+
+  pub specs-of : h.table.analyses ≡ length specs
+  specs-of = analyses-of ∙ (fit opening specs start records s.right).size
 
   -- a place that can be read
   at-of : (v : ℕ) → refusal_at h v ≡ None → IsAt (setup_for opening specs start) (lines_of records) v h.table.front v
@@ -290,7 +293,7 @@ graph-after opening records i v r e at is place =
     ∙ ap (after opening (take (i + 1) (lines_of records))) place ∙ after-take opening (lines_of records) (i + 1) v (omega arith)
 
 -- exactly the vertices that stand with the analysis in the list of a place are those whose values differ there
-moved-is : (h : HistoryView) (opening : PlainGraph) (specs : List Spec) (start : Start) (records : List Record) (s : StandsFor h opening specs start records)
+pub moved-is : (h : HistoryView) (opening : PlainGraph) (specs : List Spec) (start : Start) (records : List Record) (s : StandsFor h opening specs start records)
     (v a : ℕ) (spec : Spec) → slice_get specs a ≡ Some spec → v ≤ front (lines_of records) → h.floor ≤ v → (x : ℕ)
     → Contains (moved_at h v) (record { analysis = a; vertex = x }) ↔ Moves (after opening (lines_of records) (v - 1)) (after opening (lines_of records) v) spec x
 unfolding opened opened_table

@@ -1,14 +1,15 @@
--- How many changes a history keeps, by the records that made it.
+-- Which changes a history keeps, and how many, by the records that made it.
 use Rattle.std.proofs.Common.{◌≡◌, ℕ, zero, suc, ◌+◌, ◌<◌, ◌≤◌, ◌==◌, ◌&&◌, ◌||◌, max, Bool, true, false, if◌then◌else◌, List, [], ◌∷◌, ◌++◌, length, map, Some, arith, refl, inl, inr, sym, subst, ap, ◌∙◌, append_assoc}
 use Rattle.std.specs.Prelude.{nat_le, nat_lt, fold}
-use Rattle.std.specs.List.{All, slice_get, list_any}
+use Rattle.std.specs.List.{All, slice_get, list_any, filter}
 use Rattle.std.proofs.lemmas.List.Elements.{All-nil}
 use Rattle.std.proofs.lemmas.Bool.{cases_eq, and_parts, eq-eqb, ne_eqb, lt-leb, ltb-true}
 use Rattle.std.proofs.lemmas.List.{append-nil}
 use Rattle.std.proofs.lemmas.List.Folds.{list_any-append}
 use Rattle.std.proofs.lemmas.List.Sums.{sum_by-cons}
 use Rattle.ris_base.specs.Limits.{vertex_limit}
-use Rattle.ris_base.specs.Records.{is_entry}
+use Rattle.ris_base.specs.Lines.{floor}
+use Rattle.ris_base.specs.Records.{is_entry, lines_of}
 use Rattle.ris_base.specs.declared.lines.Line.{Line}
 use Rattle.ris_base.specs.declared.lines.Line.TheVariants as line
 use Rattle.ris_base.specs.declared.records.Change.{Change}
@@ -17,10 +18,11 @@ use Rattle.ris_base.specs.declared.records.Start.{Start}
 use Rattle.ris_history.specs.Applied.{opened, opened_table, entered, entered_table, trimmed_table, raised, applied_line, applied}
 use Rattle.ris_history.specs.Chains.{HeldView, ChainView, pushed, any_up_to, trimmed_from, trimmed, kept_of, number, chain_at, grown, change_held, is_taken, bound_of, appended, with_changes, kept_in}
 use Rattle.ris_history.specs.HistoryView.{HistoryView}
+use Rattle.ris_history.specs.Parts.{changes_of, is_of, placed_held, unreplaced_of}
 use Rattle.ris_history.specs.Standing.{Placed, placed_from, replaces, unreplaced, kept_count}
 use Rattle.ris_history.proofs.ChainLemmas.{any-wider, chain_at-grown, length-grown, chain_at-appended, chain_at-appended_other, length-appended}
 use Rattle.ris_history.proofs.ChangeLemmas.{number-same, bound_of-at}
-use Rattle.ris_history.proofs.DueLemmas.{one_of, one_of-some, trimmed-untouched}
+use Rattle.ris_history.proofs.DueLemmas.{trimmed-untouched}
 use Rattle.ris_history.proofs.TableLaws.{chain_at-trimmed, AreTaken}
 use Rattle.ris_history.proofs.ValueLaws.{floor-applied, analyses-applied, AllTaken}
 use Rattle.ris_history.proofs.FloorLaws.{Tells, AllWithin, tells, tells-line, tells-opened, floor-within}
@@ -241,40 +243,45 @@ trimmed-fold h n xs (r ∷ rs) tells within t =
 
 -- Counting
 
--- how many items of a chain no later one replaces
-abbrev pub left_in : ℕ → List HeldView → ℕ
-left_in f [] = 0
-left_in f (s ∷ ss) = (if any_up_to f ss then 0 else 1) + left_in f ss
+-- the items of a chain that no later one replaces, in order
+abbrev pub left_in : ℕ → List HeldView → List HeldView
+left_in f [] = []
+left_in f (s ∷ ss) = if any_up_to f ss then left_in f ss else s ∷ left_in f ss
+
+-- an item that is a change
+abbrev pub change_in : HeldView → List HeldView
+change_in s = if s.place == 0 then [] else s ∷ []
 
 -- each item is a change
 abbrev pub ArePast : List HeldView → Type 0
 ArePast [] = Unit {0}
 ArePast (s ∷ ss) = (0 < s.place) × ArePast ss
 
-left_in-all : (f : ℕ) (items : List HeldView) → any_up_to f items ≡ false → left_in f items ≡ length items
+left_in-all : (f : ℕ) (items : List HeldView) → any_up_to f items ≡ false → left_in f items ≡ items
 left_in-all f [] h = refl
 left_in-all f (s ∷ ss) h =
     let rest : any_up_to f ss ≡ false = or_false_right (nat_le s.place f) (any_up_to f ss) h in
     let more = left_in-all f ss rest in
-    (rw rest refl) ∙ (let x : 1 + left_in f ss ≡ length (s ∷ ss) = omega arith in x)
+    rw rest (ap (λ (xs : List HeldView). s ∷ xs) more)
   where
     or_false_right : (a b : Bool) → (a || b) ≡ false → b ≡ false
     or_false_right true b e = absurd (cc)
     or_false_right false b e = e
 
-kept-trimmed_from : (f : ℕ) (first : HeldView) (items : List HeldView) → ArePast items
-    → kept_of (trimmed_from f first items) ≡ (if any_up_to f items then 0 else one_of first.place) + left_in f items
-kept-trimmed_from f first [] past = omega arith
-kept-trimmed_from f first (s ∷ ss) past = go (any_up_to f (s ∷ ss)) refl (kept-trimmed_from f s ss past.1) (left_in-all f (s ∷ ss))
+changes-trimmed_from : (f : ℕ) (first : HeldView) (items : List HeldView) → ArePast items
+    → changes_of (trimmed_from f first items) ≡ (if any_up_to f items then [] else change_in first) ++ left_in f items
+changes-trimmed_from f first [] past = refl
+changes-trimmed_from f first (s ∷ ss) past = go (any_up_to f (s ∷ ss)) refl (changes-trimmed_from f s ss past.1) (left_in-all f (s ∷ ss))
   where
-    go : (t : Bool) → any_up_to f (s ∷ ss) ≡ t → kept_of (trimmed_from f s ss) ≡ (if any_up_to f ss then 0 else one_of s.place) + left_in f ss
-        → (any_up_to f (s ∷ ss) ≡ false → left_in f (s ∷ ss) ≡ length (s ∷ ss))
-        → kept_of (if t then trimmed_from f s ss else record { first = first; later = s ∷ ss }) ≡ (if t then 0 else one_of first.place) + left_in f (s ∷ ss)
-    go false e more all = let size = all e in omega arith
-    go true e more all =
-        let one = one_of-some s.place past.0 in
-        let same : (if any_up_to f ss then 0 else one_of s.place) ≡ (if any_up_to f ss then 0 else 1) = ap (λ n. if any_up_to f ss then 0 else n) one in
-        omega arith
+    next : (b : Bool) → (if b then [] else change_in s) ++ left_in f ss ≡ (if b then left_in f ss else s ∷ left_in f ss)
+    next true = refl
+    next false = let some = ne_eqb s.place 0 (λ e. let p = past.0 in omega arith) in rw some refl
+
+    go : (t : Bool) → any_up_to f (s ∷ ss) ≡ t → changes_of (trimmed_from f s ss) ≡ (if any_up_to f ss then [] else change_in s) ++ left_in f ss
+        → (any_up_to f (s ∷ ss) ≡ false → left_in f (s ∷ ss) ≡ s ∷ ss)
+        → changes_of (if t then trimmed_from f s ss else record { first = first; later = s ∷ ss }) ≡ (if t then [] else change_in first) ++ left_in f (s ∷ ss)
+    go false e more all = ap (λ (xs : List HeldView). change_in first ++ xs) (sym (all e))
+    go true e more all = more ∙ next (any_up_to f ss)
 
 -- each placed change is taken, and stands behind place 0
 abbrev pub AllCounted : ℕ → List Placed → Type 0
@@ -357,28 +364,89 @@ abbrev pub reach : ℕ → List Placed → ℕ
 reach n [] = 0
 reach n (p ∷ ps) = max (number n p.change.analysis p.change.vertex + 1) (reach n ps)
 
+-- a list, or one with one item more
+length-either : {X : Type 0} (b : Bool) (x : X) (xs : List X) → length (if b then xs else x ∷ xs) ≡ (if b then 0 else 1) + length xs
+length-either true x xs = omega arith
+length-either false x xs = omega arith
+
 -- the changes that no later one replaces are those that none of their chain replaces
-totals-unreplaced : (f n m : ℕ) (ps : List Placed) → AllCounted n ps → reach n ps ≤ m → totals m (λ k. left_in f (items_of n k ps)) ≡ unreplaced f ps
+totals-unreplaced : (f n m : ℕ) (ps : List Placed) → AllCounted n ps → reach n ps ≤ m → totals m (λ k. length (left_in f (items_of n k ps))) ≡ length (unreplaced f ps)
 totals-unreplaced f n m [] h l = totals-zero m (λ k. 0) (λ k. refl)
 totals-unreplaced f n m (p ∷ ps) h l =
     let j = number n p.change.analysis p.change.vertex in
     let more = totals-unreplaced f n m ps h.2 (omega arith) in
-    let step = totals-one m j (if list_any (replaces f p) ps then 0 else 1) (λ k. left_in f (items_of n k ps)) (λ k. left_in f (items_of n k (p ∷ ps))) (omega arith) (own h) (other h) in
+    let step = totals-one m j (if list_any (replaces f p) ps then 0 else 1) (λ k. length (left_in f (items_of n k ps))) (λ k. length (left_in f (items_of n k (p ∷ ps)))) (omega arith) (own h) (other h) in
+    let one = length-either (list_any (replaces f p) ps) p (unreplaced f ps) in
     omega arith
   where
     own : AllCounted n (p ∷ ps)
-        → left_in f (items_of n (number n p.change.analysis p.change.vertex) (p ∷ ps)) ≡ (if list_any (replaces f p) ps then 0 else 1) + left_in f (items_of n (number n p.change.analysis p.change.vertex) ps)
+        → length (left_in f (items_of n (number n p.change.analysis p.change.vertex) (p ∷ ps))) ≡ (if list_any (replaces f p) ps then 0 else 1) + length (left_in f (items_of n (number n p.change.analysis p.change.vertex) ps))
     own h =
         let taken = h.0 in
         let same = eq-eqb (number n p.change.analysis p.change.vertex) (number n p.change.analysis p.change.vertex) refl in
         let any = any-replaces f n p ps h.0 h.2 in
-        rw (taken, same) (ap (λ b. (if b then 0 else 1) + left_in f (items_of n (number n p.change.analysis p.change.vertex) ps)) any)
+        let left = left_in f (items_of n (number n p.change.analysis p.change.vertex) ps) in
+        rw (taken, same) (length-either (any_up_to f (items_of n (number n p.change.analysis p.change.vertex) ps)) (change_held p.place p.change) left ∙ ap (λ b. (if b then 0 else 1) + length left) any)
 
-    other : AllCounted n (p ∷ ps) → (k : ℕ) → ¬ (k ≡ number n p.change.analysis p.change.vertex) → left_in f (items_of n k (p ∷ ps)) ≡ left_in f (items_of n k ps)
+    other : AllCounted n (p ∷ ps) → (k : ℕ) → ¬ (k ≡ number n p.change.analysis p.change.vertex) → length (left_in f (items_of n k (p ∷ ps))) ≡ length (left_in f (items_of n k ps))
     other h k differs =
         let taken = h.0 in
         let apart = ne_eqb (number n p.change.analysis p.change.vertex) k (λ e. differs (sym e)) in
         rw (taken, apart) refl
+
+-- The changes of one chain
+
+-- the items of a chain that no later one replaces are those of the changes of its vertex and analysis that no later one replaces
+pub left-unreplaced : (f n a x : ℕ) (ps : List Placed) → a < n → AllCounted n ps → left_in f (items_of n (number n a x) ps) ≡ map placed_held (filter (is_of a x) (unreplaced f ps))
+left-unreplaced f n a x [] an h = refl
+left-unreplaced f n a x (p ∷ ps) an h = go (left-unreplaced f n a x ps an h.2)
+  where
+    below : p.change.analysis < n
+    below = ltb-true p.change.analysis n (and_parts (nat_lt p.change.analysis n) (nat_lt p.change.vertex vertex_limit) h.0).0
+
+    -- a change that is chosen
+    chosen : (b c : Bool) (xs : List HeldView) (us : List Placed) → b ≡ c → is_of a x p ≡ true → xs ≡ map placed_held (filter (is_of a x) us)
+        → (if b then xs else placed_held p ∷ xs) ≡ map placed_held (filter (is_of a x) (if c then us else p ∷ us))
+    chosen true true xs us e own more = more
+    chosen true false xs us e own more = absurd (cc)
+    chosen false true xs us e own more = absurd (cc)
+    chosen false false xs us e own more = rw own (ap (λ (ys : List HeldView). placed_held p ∷ ys) more)
+
+    -- one that isn't
+    passed : (c : Bool) (xs : List HeldView) (us : List Placed) → is_of a x p ≡ false → xs ≡ map placed_held (filter (is_of a x) us)
+        → xs ≡ map placed_held (filter (is_of a x) (if c then us else p ∷ us))
+    passed true xs us other more = more
+    passed false xs us other more = rw other more
+
+    differs : ¬ (number n p.change.analysis p.change.vertex ≡ number n a x) → is_of a x p ≡ false
+    differs other = elim (cases_eq p.change.analysis a) [
+      | inl one ↦ elim (cases_eq p.change.vertex x) [
+        | inl two ↦ absurd (other (ap (λ b. number n b p.change.vertex) one ∙ ap (number n a) two))
+        | inr two ↦ (let e = eq-eqb p.change.analysis a one in let d = ne_eqb p.change.vertex x two in rw (e, d) refl)
+      ]
+      | inr one ↦ (let e = ne_eqb p.change.analysis a one in rw e refl)
+    ]
+
+    go : left_in f (items_of n (number n a x) ps) ≡ map placed_held (filter (is_of a x) (unreplaced f ps))
+        → left_in f (items_of n (number n a x) (p ∷ ps)) ≡ map placed_held (filter (is_of a x) (unreplaced f (p ∷ ps)))
+    go more = elim (cases_eq (number n p.change.analysis p.change.vertex) (number n a x)) [
+      | inl same ↦
+          let ends = number-same n p.change.analysis p.change.vertex a x below an same in
+          let at = eq-eqb (number n p.change.analysis p.change.vertex) (number n a x) same in
+          let taken = h.0 in
+          let one = eq-eqb p.change.analysis a ends.0 in
+          let two = eq-eqb p.change.vertex x ends.1 in
+          let own : is_of a x p ≡ true = rw (one, two) refl in
+          let any : any_up_to f (items_of n (number n a x) ps) ≡ list_any (replaces f p) ps =
+          ap (λ k. any_up_to f (items_of n k ps)) (sym same) ∙ any-replaces f n p ps h.0 h.2 in
+          let all = chosen (any_up_to f (items_of n (number n a x) ps)) (list_any (replaces f p) ps) (left_in f (items_of n (number n a x) ps)) (unreplaced f ps) any own more in
+          rw (taken, at) all
+      | inr apart ↦
+          let taken = h.0 in
+          let no = ne_eqb (number n p.change.analysis p.change.vertex) (number n a x) apart in
+          let all = passed (list_any (replaces f p) ps) (left_in f (items_of n (number n a x) ps)) (unreplaced f ps) (differs apart) more in
+          rw (taken, no) all
+    ]
 
 -- The law
 
@@ -401,36 +469,61 @@ counted-placed n k (r ∷ rs) own taken =
     AllCounted-append n (placed_at (front_with k r.line) r.changes) (placed_from (front_with k r.line) rs) (counted-line n k r.line r.changes own.0 taken.0)
     (counted-placed n (front_with k r.line) rs own.1 taken.1)
 
-zero-either : (b : Bool) (x : ℕ) → x ≡ 0 → (if b then 0 else x) ≡ 0
-zero-either true x e = refl
-zero-either false x e = e
+-- what a chain holds that began with what there was at place 0
+changes-bare : (f : ℕ) (c : ChainView) (items : List HeldView) → c.later ≡ [] → c.first.place ≡ 0 → ArePast items → changes_of (trimmed f (with_items c items)) ≡ left_in f items
+changes-bare f c items none zero_first past =
+    ap (λ (xs : List HeldView). changes_of (trimmed_from f c.first (xs ++ items))) none ∙ changes-trimmed_from f c.first items past
+    ∙ ap (λ (xs : List HeldView). xs ++ left_in f items) (nothing (any_up_to f items) (change_in c.first) (let e = eq-eqb c.first.place 0 zero_first in rw e refl))
+  where
+    nothing : (b : Bool) (xs : List HeldView) → xs ≡ [] → (if b then [] else xs) ≡ []
+    nothing true xs e = refl
+    nothing false xs e = e
 
--- how many changes a chain keeps that began with what there was at place 0
-kept-bare : (f : ℕ) (c : ChainView) (items : List HeldView) → c.later ≡ [] → c.first.place ≡ 0 → ArePast items → kept_of (trimmed f (with_items c items)) ≡ left_in f items
-kept-bare f c items none zero_first past =
-    let zero_kept : one_of c.first.place ≡ 0 = (let e = eq-eqb c.first.place 0 zero_first in rw e refl) in
-    let gone = zero-either (any_up_to f items) (one_of c.first.place) zero_kept in
-    let all = kept-trimmed_from f c.first items past in
-    ap (λ (xs : List HeldView). kept_of (trimmed_from f c.first (xs ++ items))) none ∙ (let x : kept_of (trimmed_from f c.first items) ≡ left_in f items = omega arith in x)
+-- as many changes are kept as a chain holds
+kept-changes : (c : ChainView) → kept_of c ≡ length (changes_of c)
+kept-changes c = go (c.first.place == 0)
+  where
+    go : (b : Bool) → length c.later + (if b then 0 else 1) ≡ length ((if b then [] else c.first ∷ []) ++ c.later)
+    go true = omega arith
+    go false = omega arith
+
+-- each chain holds exactly the items of its changes that no later one replaces
+held : (start : Start) (records : List Record) (k : ℕ) → AllOwn records → AllTaken (length start.forests) records → AllWithin [] records
+    → changes_of (chain_at (fold applied (opened start) records).table.chains k)
+    ≡ left_in (fold applied (opened start) records).floor (items_of (length start.forests) k (placed_from 0 records))
+unfolding opened opened_table AreTrimmed Trims
+held start records k own taken within =
+    let n = length start.forests in
+    let h = fold applied (opened start) records in
+    let f = h.floor in
+    let ps = placed_from 0 records in
+    let first = (opened start).table.chains in
+    let bare : All IsBare (opened start).table.chains = bare-with_forests n 0 start.forests [] (All-nil IsBare) in
+    let trim = trimmed-fold (opened start) start.sessions [] records (tells-opened start) within (λ j. ap (any_up_to 0) (bare-later first j bare)) in
+    ap changes_of (sym (trimmed-untouched f (chain_at h.table.chains k) (trim k))
+    ∙ trims-fold (opened start) k (chain_at first k) records own (λ g low. refl) f (omega arith))
+    ∙ changes-bare f (chain_at first k) (items_of n k ps) (bare-later first k bare) (bare-first first k bare) (items-past n k ps (counted-placed n 0 records own taken))
+
+-- each chain holds exactly the changes of its vertex and analysis that no later one replaces
+pub held-unreplaced : (start : Start) (records : List Record) (a x : ℕ) → a < length start.forests → AllOwn records → AllTaken (length start.forests) records → AllWithin [] records
+    → changes_of (chain_at (fold applied (opened start) records).table.chains (number (length start.forests) a x)) ≡ unreplaced_of start.sessions records a x
+held-unreplaced start records a x an own taken within =
+    let n = length start.forests in
+    let ps = placed_from 0 records in
+    held start records (number n a x) own taken within
+    ∙ ap (λ f. left_in f (items_of n (number n a x) ps)) (tells start records within).floor
+    ∙ left-unreplaced (floor start.sessions (lines_of records)) n a x ps an (counted-placed n 0 records own taken)
 
 -- the history keeps as many changes as no later one replaces
 pub kept : (start : Start) (records : List Record) → AllOwn records → AllTaken (length start.forests) records → AllWithin [] records
     → kept_in (fold applied (opened start) records).table.chains ≡ kept_count start.sessions records
-unfolding opened opened_table AreTrimmed Trims
 kept start records own taken within =
     let n = length start.forests in
     let h = fold applied (opened start) records in
     let cs = h.table.chains in
     let f = h.floor in
     let ps = placed_from 0 records in
-    let first = (opened start).table.chains in
-    let bare : All IsBare (opened start).table.chains = bare-with_forests n 0 start.forests [] (All-nil IsBare) in
-    let counted = counted-placed n 0 records own taken in
-    let trim = trimmed-fold (opened start) start.sessions [] records (tells-opened start) within (λ k. ap (any_up_to 0) (bare-later first k bare)) in
     let m = length cs + reach n ps in
-    let each : (k : ℕ) → kept_of (chain_at cs k) ≡ left_in f (items_of n k ps) = λ k.
-    ap kept_of (sym (trimmed-untouched f (chain_at cs k) (trim k))
-    ∙ trims-fold (opened start) k (chain_at first k) records own (λ g low. refl) f (omega arith))
-    ∙ kept-bare f (chain_at first k) (items_of n k ps) (bare-later first k bare) (bare-first first k bare) (items-past n k ps counted) in
-    kept-totals cs m (omega arith) ∙ totals-same m (λ k. kept_of (chain_at cs k)) (λ k. left_in f (items_of n k ps)) each
-    ∙ totals-unreplaced f n m ps counted (omega arith) ∙ ap (λ g. unreplaced g ps) (tells start records within).floor
+    let each : (k : ℕ) → kept_of (chain_at cs k) ≡ length (left_in f (items_of n k ps)) = λ k. kept-changes (chain_at cs k) ∙ ap length (held start records k own taken within) in
+    kept-totals cs m (omega arith) ∙ totals-same m (λ k. kept_of (chain_at cs k)) (λ k. length (left_in f (items_of n k ps))) each
+    ∙ totals-unreplaced f n m ps (counted-placed n 0 records own taken) (omega arith) ∙ ap (λ g. length (unreplaced g ps)) (tells start records within).floor

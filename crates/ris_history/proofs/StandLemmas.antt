@@ -43,7 +43,8 @@ pub record AreFit (opening : PlainGraph) (specs : List Spec) (start : Start) (re
   pub own : AllOwn records
   pub within : AllWithin [] records
 
-EachPair-length : {X Y : Type 0} (R : X → Y → Type 0) (xs : List X) (ys : List Y) → EachPair R xs ys → length xs ≡ length ys
+-- two lists that are related item by item have the same length
+pub EachPair-length : {X Y : Type 0} (R : X → Y → Type 0) (xs : List X) (ys : List Y) → EachPair R xs ys → length xs ≡ length ys
 EachPair-length R [] [] h = refl
 EachPair-length R [] (y ∷ ys) h = absurd h
 EachPair-length R (x ∷ xs) [] h = absurd h

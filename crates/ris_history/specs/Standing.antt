@@ -1,5 +1,5 @@
 -- The records that a history stands for.
-use Rattle.std.specs.Prelude.{◌≡◌, ℕ, ◌+◌, Bool, ◌&&◌, ◌==◌, nat_le, if◌then◌else◌, List, [], ◌∷◌, ◌++◌, map, fold}
+use Rattle.std.specs.Prelude.{◌≡◌, ℕ, ◌+◌, Bool, ◌&&◌, ◌==◌, nat_le, if◌then◌else◌, List, [], ◌∷◌, ◌++◌, length, map, fold}
 use Rattle.std.specs.List.{list_any}
 use Rattle.ris_base.specs.Lines.{floor}
 use Rattle.ris_base.specs.Records.{AreRight, is_entry, lines_of}
@@ -34,11 +34,11 @@ abbrev pub replaces : ℕ → Placed → Placed → Bool
 replaces f p later =
     p.change.analysis == later.change.analysis && p.change.vertex == later.change.vertex && nat_le later.place f
 
--- how many changes there are that no later one of the same vertex and analysis, at a place up to f, replaces
-abbrev pub unreplaced : ℕ → List Placed → ℕ
-unreplaced f [] = 0
-unreplaced f (p ∷ later) = (if list_any (replaces f p) later then 0 else 1) + unreplaced f later
+-- the changes that no later one of the same vertex and analysis, at a place up to f, replaces, in order
+abbrev pub unreplaced : ℕ → List Placed → List Placed
+unreplaced f [] = []
+unreplaced f (p ∷ later) = if list_any (replaces f p) later then unreplaced f later else p ∷ unreplaced f later
 
 -- how many changes of records some place from their floor on needs
 abbrev pub kept_count : ℕ → List Record → ℕ
-kept_count sessions records = unreplaced (floor sessions (lines_of records)) (placed_from 0 records)
+kept_count sessions records = length (unreplaced (floor sessions (lines_of records)) (placed_from 0 records))

@@ -1,4 +1,4 @@
-ghost use Rattle.std.specs.Prelude.{◌≡◌, ◌≢◌, ◌<◌, ◌≤◌, ℕ, List, [], ◌∷◌, ◌++◌, OnOk, OnErr, IfOk, unwrap_or};
+ghost use Rattle.std.specs.Prelude.{◌≡◌, ◌≢◌, ◌<◌, ◌≤◌, ℕ, List, [], ◌∷◌, ◌++◌, length, OnOk, OnErr, IfOk, unwrap_or};
 ghost use Rattle.std.specs.Option.{option_copied};
 ghost use Rattle.ris_base.specs.Lines.{front, floor};
 ghost use Rattle.ris_base.specs.Records.{AreRight, lines_of};
@@ -240,7 +240,9 @@ impl History {
 
     /// The number of analyses, below which that of a read has to be.
     pub fn analyses(&self) -> u32
-        ensures { result ≡ self.now.table.analyses }
+        ensures exact { result ≡ self.now.table.analyses }
+        ensures stands { (opening : PlainGraph) (specs : List Spec) (start : StartOf) (records : List RecordOf) → StandsFor self.now opening specs start records
+            → result ≡ length specs }
     {
         self.table.analyses()
     }

@@ -5,6 +5,7 @@ mod chains;
 mod growth;
 mod held;
 mod histories;
+mod laws;
 mod moves;
 mod numbers;
 mod paths;
@@ -16,3 +17,4 @@ mod tests;
 mod trims;
 
 pub use histories::History;
+pub use laws::parts_law;

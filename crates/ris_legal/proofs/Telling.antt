@@ -66,7 +66,7 @@ agrees-more : (forests more : ℕ → List Forest) (n : ℕ) → ((v : ℕ) → 
 agrees-more forests more n same p le h =
     subst (λ (xs : List Forest). IsSomeAnd (slice_get xs p.analysis) (λ F. IsOfForest F p.vertex p.shown)) (sym (same p.place le)) h
 
-answers-more : (setup : Setup) (known : List Line) (forests more : ℕ → List Forest) → ((v : ℕ) → v ≤ front known → more v ≡ forests v)
+pub answers-more : (setup : Setup) (known : List Line) (forests more : ℕ → List Forest) → ((v : ℕ) → v ≤ front known → more v ≡ forests v)
     → (q : Question) (r : LogLine) → Answers setup known forests q r → Answers setup known more q r
 answers-more setup known forests more same (question.Parent v a x) (Answer (answer.Parent f p parent)) h =
     let printed : Print = record { place = v; analysis = a; vertex = x; shown = Shown.ShownParent parent } in

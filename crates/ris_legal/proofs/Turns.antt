@@ -1,5 +1,6 @@
 -- A run of a turn alone is a run of each state that has the turn's batch.
 use Rattle.std.proofs.Common.{◌≡◌, ◌≢◌, ℕ, ◌+◌, ◌==◌, ◌&&◌, not, if◌then◌else◌, inl, inr, Bool, true, false, nat_lt, List, [], ◌∷◌, ◌++◌, length, map, Option, Some, None, refl, sym, subst, ap, ◌∙◌, append_assoc}
+use Rattle.std.proofs.Math.Path.{fun_ext}
 use Rattle.std.specs.List.{All, find, list_any, slice_get}
 use Rattle.std.proofs.lemmas.Bool.{true≢false, eqb-true}
 use Rattle.std.proofs.lemmas.List.{append-nil}
@@ -25,10 +26,6 @@ use Rattle.ris_legal.proofs.Books.{put}
 use Rattle.ris_legal.proofs.OutsideSteps.{begun-flies}
 use Rattle.ris_legal.proofs.Sealing.{sealed-seat}
 
--- functions with the same values are the same
-same_function : {A B : Type 0} (f g : A → B) → ((x : A) → f x ≡ g x) → f ≡ g
-same_function f g h = λ i x. h x i
-
 -- Books
 
 -- the seats of a book in a turn, joined to those of a state
@@ -39,7 +36,7 @@ book_in s b = record { seats = λ n. joined (s.book.seats n) (b.seats n); lines 
 seats-in : (s : State) (seats : ℕ → Seat) (n : ℕ) (y z : Seat) → joined (s.book.seats n) y ≡ z
     → (λ m. joined (s.book.seats m) (with_seat seats n y m)) ≡ with_seat (λ m. joined (s.book.seats m) (seats m)) n z
 seats-in s seats n y z same =
-    same_function (λ m. joined (s.book.seats m) (with_seat seats n y m)) (with_seat (λ m. joined (s.book.seats m) (seats m)) n z) (λ m. go m (m == n) refl)
+    fun_ext (λ m. go m (m == n) refl)
   where
     go : (m : ℕ) (c : Bool) → (m == n) ≡ c → joined (s.book.seats m) (if c then y else seats m) ≡ (if c then z else joined (s.book.seats m) (seats m))
     go m true e = ap (λ (k : ℕ). joined (s.book.seats k) y) (eqb-true m n e) ∙ same
@@ -139,7 +136,7 @@ goes-begin s turn held mid h fits = (
 
     seats : ◌≡◌ {A = ℕ → Seat} (λ n. joined (s.book.seats n) (record (turn.book.seats n) { stand = begun turn held n (turn.book.seats n).stand }))
         (λ n. record (joined (s.book.seats n) (turn.book.seats n)) { stand = begun (turned s turn) held n (turn.book.seats n).stand })
-    seats = same_function _ _ (λ n. ap (λ (x : Stand). record (joined (s.book.seats n) (turn.book.seats n)) { stand = x }) (same n (turn.book.seats n).stand refl))
+    seats = fun_ext (λ n. ap (λ (x : Stand). record (joined (s.book.seats n) (turn.book.seats n)) { stand = x }) (same n (turn.book.seats n).stand refl))
 
 goes-cell : (s turn : State) (k n : ℕ) (mid : State) → Happens turn (Step.Cell k n) mid → Fits s turn → Goes s turn (Step.Cell k n) mid
 goes-cell s turn k n mid h fits = (
@@ -294,7 +291,7 @@ run-in s turn (step ∷ steps) final are h fits =
     (turned s h.0, one.0, run-in s h.0 steps final (All-tail (λ x. is_of_turn x ≡ true) step steps are) h.2 one.1)
 
 -- runs one after another are one run
-run-append : (old mid new : State) (steps more : List Step) → Run old steps mid → Run mid more new → Run old (steps ++ more) new
+pub run-append : (old mid new : State) (steps more : List Step) → Run old steps mid → Run mid more new → Run old (steps ++ more) new
 unfolding Run
 run-append old mid new [] more h k = subst (λ (x : State). Run x more new) h k
 run-append old mid new (step ∷ steps) more h k = (h.0, h.1, run-append h.0 mid new steps more h.2 k)
@@ -392,10 +389,10 @@ module _ (ground : Ground) (records : List Record) (batch : List Request) (s : S
   seat-is (Some r) x h = λ i. record x { replies = sym (append-nil x.replies) i; stand = h.0 i }
 
   seats-are : s.book.seats ≡ (λ n. joined (s.book.seats n) (batch_seat batch n))
-  seats-are = same_function s.book.seats (λ n. joined (s.book.seats n) (batch_seat batch n)) (λ n. seat-is (find (λ r. session_by r == n) batch) (s.book.seats n) (has.seats n))
+  seats-are = fun_ext (λ n. seat-is (find (λ r. session_by r == n) batch) (s.book.seats n) (has.seats n))
 
   logs-are : s.logs ≡ (λ n. [])
-  logs-are = same_function s.logs (λ n. []) (λ n. k.empty (λ p. absurd (let w = sym p ∙ has.phase in cc)) n)
+  logs-are = fun_ext (λ n. k.empty (λ p. absurd (let w = sym p ∙ has.phase in cc)) n)
 
   state-is : s ≡ turned s (turn_of ground records batch)
   state-is = λ i. record {

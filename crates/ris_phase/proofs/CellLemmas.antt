@@ -198,6 +198,7 @@ module _ (g : GraphView) (js : List (List StripeJob)) (l : LooseView) (loosened_
     format = loosened_of.work.format;
     ins = loosened_of.work.ins;
     present = loosened_of.work.present;
+    given = loosened_of.work.given;
     stripes = length-map l.stripes (phased forests) ∙ loosened_of.work.stripes;
     follows = λ m lt.
         let old = stripe_at l m in

@@ -3,3 +3,4 @@ pub mod DecideLemmas
 pub mod FollowLemmas
 pub mod MergeLemmas
 pub mod OrderLemmas
+pub mod TurnLemmas

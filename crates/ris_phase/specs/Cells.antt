@@ -52,6 +52,15 @@ decided_from forests (suc n) k s = decided_from forests n (suc k) (decided_job f
 abbrev pub phased : List Forest → StripeView → StripeView
 phased forests s = decided_from forests (length s.jobs) 0 s
 
+-- whether the first of jobs waits
+abbrev pub waits_first : List StripeJob → Bool
+waits_first [] = false
+waits_first (j ∷ jobs) = waits j
+
+-- a stripe of which all jobs are decided, unless the first one was
+abbrev pub phased_once : List Forest → StripeView → StripeView
+phased_once forests s = if waits_first s.jobs then phased forests s else s
+
 -- a graph with jobs of which all are decided, each by its own stripe
 abbrev pub all_phased : List Forest → LooseView → LooseView
 all_phased forests l = record l { stripes = map (phased forests) l.stripes }

@@ -13,7 +13,7 @@ ghost use Rattle.ris_graph.specs.Jobs.{EachJob};
 ghost use Rattle.ris_graph.specs.Phase.{IsMerge, IsWorkOf, applied_of, entered_each, stripe_at};
 ghost use Rattle.ris_graph.specs.StripeView.{StripeView, job_at};
 ghost use Rattle.ris_graph.specs.declared.stripes.StripeJob.{StripeJob};
-ghost use Rattle.ris_phase.specs.Cells.{IsFresh, IsLoosenedOf, IsOpen, IsOrder, IsUndecided, all_phased, applied_each, applied_updates, cells, decided_job, logs, phased, verdict_in};
+ghost use Rattle.ris_phase.specs.Cells.{IsFresh, IsLoosenedOf, IsOpen, IsOrder, IsUndecided, all_phased, applied_each, applied_updates, cells, decided_job, logs, phased, phased_once, verdict_in, waits_first};
 
 use ris_base::{Gate, Meter, Triple, Update, Verdict};
 use ris_graph::{Loose, Stripe};
@@ -25,15 +25,15 @@ use std::thread::Threads;
 const STRIPES: usize = 64;
 
 /// Decides all jobs of a graph with jobs, in 1 to 64 workers, where none is decided yet. In each stripe the jobs are
-/// taken in their order. An `AddV` and an `AddE` are applied. A `DelE` gets `NoEdge` where its
+/// taken in the order of their sessions. An `AddV` and an `AddE` are applied. A `DelE` gets `NoEdge` where its
 /// triple has no copy after the stripe's earlier jobs, `Bounced` where it would take the last one and a forest uses the
 /// triple, and else is applied.
 ///
 /// With `c = 64.div_ceil(workers)` the job number j of the phase has the stripes from `j * c` on, at most c of them.
 /// There are `64.div_ceil(c)` jobs, which may be fewer than the workers: 32 for 48 workers. Each enters the gate once, with
 /// its number, also where its stripes have no jobs. Where no thread can be made, and with one worker, they run one after
-/// another. A decision costs a binary search and the moves of an insert or a removal, a stripe without jobs a test. It
-/// takes no memory.
+/// another. A decision costs a binary search and the moves of an insert or a removal. With several workers a stripe
+/// without jobs costs a test, with one nothing. It takes no memory.
 pub fn apply<R: Threads + Sync, J: Judge + Sync, G: Gate, M: Meter>(
     rt: &R,
     loose: &mut Loose<M>,
@@ -66,6 +66,54 @@ pub fn apply<R: Threads + Sync, J: Judge + Sync, G: Gate, M: Meter>(
         → IsLoosenedOf g js loose.old → IsOf g p → IsOrder (λ k. logs p (J.forests judge.now) seq [] (slice_index_or js k [])) order
         → IsMerge loose.new (applied_updates order) × (applied_each p order ≡ entered_each p (applied_updates order)) }
 {
+    decide_jobs(rt, loose, judge, workers, gate);
+}
+
+/// Decides all jobs: one worker goes over the stripes that have jobs alone, several have shares of all stripes.
+fn decide_jobs<R: Threads + Sync, J: Judge + Sync, G: Gate, M: Meter>(
+    rt: &R,
+    loose: &mut Loose<M>,
+    judge: &J,
+    workers: u32,
+    gate: &G,
+)
+    requires some { 1 ≤ workers }
+    requires few { workers ≤ 64 }
+    requires fresh { IsFresh loose.old }
+    ensures { loose.new ≡ all_phased (J.forests judge.now) loose.old }
+{
+    if workers == 1 {
+        gate.enter(0);
+        decide_in_turn(loose, judge);
+    } else {
+        decide_by_shares(rt, loose, judge, workers, gate);
+    }
+}
+
+/// Decides all jobs of the stripes that have jobs, one stripe after another.
+fn decide_in_turn<M, J: Judge>(loose: &mut Loose<M>, judge: &J)
+    requires { IsFresh loose.old }
+    ensures { loose.new ≡ all_phased (J.forests judge.now) loose.old }
+{
+    for k in 0..loose.jobs() {
+        let m = loose.stripe_of_job(k);
+        decide_once(&mut loose.stripes_mut()[m], judge);
+    }
+}
+
+/// Decides all jobs of each stripe, in shares of stripes side by side.
+fn decide_by_shares<R: Threads + Sync, J: Judge + Sync, G: Gate, M: Meter>(
+    rt: &R,
+    loose: &mut Loose<M>,
+    judge: &J,
+    workers: u32,
+    gate: &G,
+)
+    requires some { 1 ≤ workers }
+    requires few { workers ≤ 64 }
+    requires fresh { IsFresh loose.old }
+    ensures { loose.new ≡ all_phased (J.forests judge.now) loose.old }
+{
     let share = STRIPES.div_ceil(workers as usize);
     thread::for_each_chunk_mut(
         rt,
@@ -91,6 +139,27 @@ fn decide_part<M, J: Judge>(part: &mut [Stripe<M>], judge: &J)
     for stripe in part.iter_mut() {
         decide_all(stripe, judge);
     }
+}
+
+/// Decides all jobs of a stripe, unless the first one is decided.
+fn decide_once<M, J: Judge>(stripe: &mut Stripe<M>, judge: &J)
+    requires { IsTrue (waits_first stripe.old.jobs) → IsUndecided stripe.old }
+    ensures { stripe.new ≡ phased_once (J.forests judge.now) stripe.old }
+{
+    if waits(stripe) {
+        decide_all(stripe, judge);
+    }
+}
+
+/// Whether the first job of a stripe waits.
+fn waits<M>(stripe: &Stripe<M>) -> bool
+    ensures { result ≡ waits_first stripe.now.jobs }
+{
+    if stripe.jobs() == 0 {
+        return false;
+    }
+    let (_, _, verdict) = stripe.job(0);
+    verdict == Verdict::Waiting
 }
 
 /// Decides all jobs of a stripe, in their order.

@@ -161,6 +161,107 @@ fn scripts_give_their_transcripts(rt: HostRuntime) -> Result<(), Fail> {
     expect(&rt, over(weighted, WEIGHTS), done(WEIGHTS_TEXT, 0))
 }
 
+const ABSENT: &[u8] =
+    b"risgraph,1,3,1\n0,value,@0,0,0\n0,value,@0,0,1\n0,value,@0,0,9\n0,value,@0,0,4194304\n";
+
+const ABSENT_TEXT: &str =
+    "0,0,value,0,0,0\n0,1,value,0,0,unreached\n0,2,value,0,0,absent\n0,3,value,0,0,absent\nsummary,0,0,0,0\n";
+
+const COPIES: &[u8] =
+    b"risgraph,1,2,1\n0,adde,0,1,7\n0,adde,0,1,7\n0,dele,0,1,7\n0,dele,0,1,7\n0,dele,0,1,7\n0,value,@3,0,1\n0,value,@4,0,1\n";
+
+const COPIES_TEXT: &str =
+    "0,0,place,1\n0,1,place,2\n0,2,place,3\n0,3,place,4\n0,4,noedge,4,1\n0,5,value,4,3,7\n0,6,value,4,4,unreached\njournal,entry,1,0,0\njournal,entry,2,0,1\njournal,entry,3,0,2\njournal,entry,4,0,3\nsummary,4,0,1,0\n";
+
+const CYCLE: &[u8] =
+    b"risgraph,1,3,1\nbase,0,1,0\nbase,1,2,0\nbase,2,1,0\n0,dele,0,1,0\n0,value,last,0,1\n0,value,last,0,2\n";
+
+const CYCLE_TEXT: &str =
+    "0,0,place,1\n0,1,value,1,1,unreached\n0,2,value,1,1,unreached\njournal,entry,1,0,0\nsummary,1,0,0,0\n";
+
+const LIMITS: &[u8] =
+    b"risgraph,1,2,1\n0,adde,0,1,4294967295\n0,adde,0,1,4294967296\n0,addv,4194303\n0,addv,4194304\n0,value,last,0,1\n0,value,last,0,4194303\n";
+
+const LIMITS_TEXT: &str =
+    "0,0,place,1\n0,1,limit,1,1,4294967296\n0,2,place,2\n0,3,limit,2,1,4194304\n0,4,value,2,2,4294967295\n0,5,value,2,2,unreached\njournal,entry,1,0,0\njournal,entry,2,0,2\nsummary,2,0,2,0\n";
+
+#[test]
+fn worked_rows_give_their_transcripts(rt: HostRuntime) -> Result<(), Fail> {
+    let depth = "replay --analyses bfs:0";
+    expect(&rt, over(depth, ABSENT), done(ABSENT_TEXT, 0))?;
+    let length = "replay --analyses sssp:0";
+    for (script, text) in [
+        (COPIES, COPIES_TEXT),
+        (CYCLE, CYCLE_TEXT),
+        (LIMITS, LIMITS_TEXT),
+    ] {
+        expect(&rt, over(length, script), done(text, 0))?;
+    }
+    Ok(())
+}
+
+#[test]
+fn each_fault_of_a_script_has_its_record(rt: HostRuntime) -> Result<(), Fail> {
+    for (script, line) in [
+        ("risgraph,3,2,1", "ris: script: record 1: header\n"),
+        (
+            "risgraph,1,2,1\n0,begin\n0,adde,0,1,1",
+            "ris: script: record 3: close\n",
+        ),
+        ("risgraph,1,2,1\n0,commit", "ris: script: record 2: close\n"),
+        ("risgraph,1,2,1\n0,frob,1", "ris: script: record 2: op\n"),
+        (
+            "risgraph,1,2,1\n1,addv,0",
+            "ris: script: record 2: session\n",
+        ),
+        (
+            "risgraph,1,2,1\n0,adde,0,1",
+            "ris: script: record 2: field\n",
+        ),
+        (
+            "risgraph,1,2,1\n0,value,last,1,0",
+            "ris: script: record 2: analysis\n",
+        ),
+        (
+            "risgraph,1,2,1\n0,begin\n0,value,last,0,0",
+            "ris: script: record 3: inside\n",
+        ),
+        (
+            "risgraph,1,2,1\n0,begin\n0,commit",
+            "ris: script: record 3: parts\n",
+        ),
+        (
+            "risgraph,1,2,1\n0,addv,0\nbase,0,1,1",
+            "ris: script: record 3: base\n",
+        ),
+        (
+            "risgraph,1,2,1\nbase,0,2,1",
+            "ris: script: record 2: base\n",
+        ),
+    ] {
+        let given = over("replay --analyses bfs:0", script.as_bytes());
+        expect(&rt, given, refused(Status::Script, line))?;
+    }
+    Ok(())
+}
+
+/// A script of one transaction with so many parts, and without its end.
+fn transaction(alloc: Global, parts: usize) -> Result<Vec<u8>, Fail> {
+    let mut script = Vec::from_slice(alloc, b"risgraph,1,2,1\n0,begin\n")?;
+    for _ in 0..parts {
+        script.extend_from_slice(b"0,addv,0\n")?;
+    }
+    Ok(script)
+}
+
+#[test]
+fn a_transaction_has_a_greatest_length(rt: HostRuntime) -> Result<(), Fail> {
+    let long = transaction(rt.alloc(), 1025)?;
+    let given = over("replay --analyses bfs:0", long.as_slice());
+    let line = "ris: script: record 1027: parts\n";
+    expect(&rt, given, refused(Status::Script, line))
+}
+
 #[test]
 fn each_status_has_its_line(rt: HostRuntime) -> Result<(), Fail> {
     let usage = refused(Status::Usage, "ris: usage\n");

@@ -158,13 +158,13 @@ length-log p e = let h = (step_of-done p).0 e in let none = ap length h.0 in let
 -- The commands that are given
 
 -- what is behind the first item of the rest of a list
-drop-more : {X : Type 0} (n : ℕ) (xs : List X) → drop 1 (drop n xs) ≡ drop (suc n) xs
+pub drop-more : {X : Type 0} (n : ℕ) (xs : List X) → drop 1 (drop n xs) ≡ drop (suc n) xs
 drop-more zero xs = refl
 drop-more (suc n) [] = refl
 drop-more (suc n) (x ∷ xs) = drop-more n xs
 
 -- the first item of the rest of a list
-slice_get-drop : {X : Type 0} (n : ℕ) (xs : List X) → slice_get (drop n xs) 0 ≡ slice_get xs n
+pub slice_get-drop : {X : Type 0} (n : ℕ) (xs : List X) → slice_get (drop n xs) 0 ≡ slice_get xs n
 slice_get-drop zero xs = refl
 slice_get-drop (suc n) [] = refl
 slice_get-drop (suc n) (x ∷ xs) = slice_get-drop n xs

@@ -1,12 +1,13 @@
-ghost use Rattle.std.specs.Prelude.{◌≡◌, ◌&&◌, OnOk, not};
+ghost use Rattle.std.specs.Prelude.{◌≡◌, ◌&&◌, [], OnErr, OnOk, not};
 ghost use Rattle.std.specs.List.{list_any};
-ghost use Rattle.ris_base.specs.Machine.{Cells, Undecided};
+ghost use Rattle.ris_base.specs.Machine.{Cells, Serially, Undecided};
 ghost use Rattle.ris_core.specs.Moves.{IsMade, is_phase, is_stand, sealed, sealed_all, sealed_one};
 
 use super::{Board, some_stand};
 use crate::cells::merge_of;
 use crate::copies::{Duplicate, copies_of, list_copy};
 use crate::graphs::graph_after;
+use crate::memory::{both, put};
 use crate::phases::{Phase, Stand};
 use crate::seats::Decided;
 use ris_base::{LogLine, NoMemory, Order, Outcome, Refusal, Verdict};
@@ -25,12 +26,20 @@ impl Board {
         let Some(merged) = merge_of(alloc, order, &self.decided)? else {
             return Ok(false);
         };
+        self.seal_merged(alloc, &merged)?;
+        Ok(true)
+    }
+
+    /// The same in this order of the candidates. After `NoMemory` all is as before.
+    fn seal_merged(&mut self, alloc: Global, merged: &[Decided]) -> Result<(), NoMemory>
+        ensures ok { OnOk result (self.new ≡ record (sealed_all self.old merged.now) { phase = Serially; decided = [] }) }
+        ensures err { OnErr result (self.new ≡ self.old) }
+    {
         let mut next = self.duplicate(alloc)?;
-        next.seal_all(alloc, &merged)?;
+        let made = next.seal_all(alloc, merged);
         next.phase = Phase::Serially;
         next.decided.clear();
-        *self = next;
-        Ok(true)
+        put(self, next, made)
     }
 
     /// Whether the phase is that of the cells, and no candidate is left.
@@ -54,31 +63,47 @@ impl Board {
     fn seal_one(&mut self, alloc: Global, decision: &Decided) -> Result<(), NoMemory>
         ensures { OnOk result (self.new ≡ sealed_one self.old decision.now) }
     {
-        let entry = decision.entry.copy(alloc)?;
         if decision.verdict == Verdict::Applied {
-            let after = graph_after(alloc, &self.current, &entry.parts)?;
-            let tables = self.tables().duplicate(alloc)?;
-            self.add_entry(entry, tables, after)
+            let after = graph_after(alloc, &self.current, &decision.entry.parts);
+            let found = both(after, self.tables().duplicate(alloc));
+            match both(decision.entry.copy(alloc), found) {
+                Ok((entry, (after, tables))) => self.add_entry(entry, tables, after),
+                Err(NoMemory) => Err(NoMemory),
+            }
         } else {
             let front = self.front();
             let refusal = Refusal::NoEdge { front, part: 1 };
-            self.tell(entry.session, LogLine::Reply(Outcome::Refused(refusal)))
+            let reply = LogLine::Reply(Outcome::Refused(refusal));
+            self.tell(decision.entry.session, reply)
         }
     }
 }
 
 impl Duplicate for Board {
     fn duplicate(&self, alloc: Global) -> Result<Self, NoMemory> {
-        Ok(Board {
-            opening: plain_copy(alloc, &self.opening)?,
-            specs: list_copy(alloc, &self.specs)?,
-            seats: copies_of(alloc, &self.seats)?,
-            lines: copies_of(alloc, &self.lines)?,
-            places: copies_of(alloc, &self.places)?,
-            phase: self.phase,
-            decided: copies_of(alloc, &self.decided)?,
-            published: self.published,
-            current: plain_copy(alloc, &self.current)?,
-        })
+        let graphs = both(
+            plain_copy(alloc, &self.opening),
+            plain_copy(alloc, &self.current),
+        );
+        let said = both(copies_of(alloc, &self.seats), copies_of(alloc, &self.lines));
+        let found = both(
+            copies_of(alloc, &self.places),
+            copies_of(alloc, &self.decided),
+        );
+        let lists = both(list_copy(alloc, &self.specs), both(said, found));
+        match both(graphs, lists) {
+            Ok(((opening, current), (specs, ((seats, lines), (places, decided))))) => Ok(Board {
+                opening,
+                specs,
+                seats,
+                lines,
+                places,
+                phase: self.phase,
+                decided,
+                published: self.published,
+                current,
+            }),
+            Err(NoMemory) => Err(NoMemory),
+        }
     }
 }

@@ -5,11 +5,15 @@ ghost use Rattle.ris_base.specs.Graph.{IsProper};
 ghost use Rattle.ris_base.specs.Machine.Step.{Serial};
 ghost use Rattle.ris_base.specs.Records.{is_entry};
 ghost use Rattle.ris_base.specs.Requests.{entered};
+ghost use Rattle.ris_base.specs.declared.lines.Line.TheVariants as line;
+ghost use Rattle.ris_base.specs.declared.replies.LogLine.TheVariants.{Reply};
+ghost use Rattle.ris_base.specs.declared.replies.Outcome.TheVariants as outcome;
 ghost use Rattle.ris_core.specs.Moves.{IsAfter, IsEntered, IsMade, IsRefused, asked_in_tail, entered_with, entry_in_tail, graph_in, left, marked, told_at, told_seats};
 ghost use Rattle.ris_core.specs.Stands.{IsTried};
 
-use super::Board;
+use super::{Board, next_at};
 use crate::checks::are_forests;
+use crate::memory::push_both;
 use crate::phases::{Phase, Stand};
 use crate::seats::{Asked, Seat};
 use crate::tables::{Tables, are_same_forests, tables_of};
@@ -88,11 +92,7 @@ impl Board {
         if self.phase != Phase::Serially {
             return None;
         }
-        let seat = self.seats.get(session as usize)?;
-        if seat.stand() != Stand::InTail {
-            return None;
-        }
-        seat.next()
+        next_at(&self.seats, session, Stand::InTail)
     }
 
     /// The entry that the next command of a session in the tail would make, where it is a change.
@@ -143,8 +143,7 @@ impl Board {
         ensures err { OnErr result (self.new ≡ self.old) }
     {
         let knew = self.lines.len() as u64;
-        tell_seat(&mut self.seats, session, reply, knew)?;
-        Ok(())
+        tell_seat(&mut self.seats, session, reply, knew)
     }
 
     /// A mark or a leave more at the end, and the reply to its session. After `NoMemory` all is as before.
@@ -169,18 +168,49 @@ impl Board {
         ensures ok { OnOk result (self.new ≡ entered_with self.old entry tables) }
         ensures err { OnErr result (self.new ≡ self.old) }
     {
-        let session = entry.session;
         let place = self.places.len() as u64;
-        let reply = LogLine::Reply(Outcome::Placed { place });
-        self.places.push(tables)?;
-        let line = Line::Entry(entry);
-        if let Err(NoMemory) = push_line(&mut self.seats, &mut self.lines, session, line, reply) {
-            let _ = self.places.pop();
-            return Err(NoMemory);
-        }
+        push_entry(
+            &mut self.seats,
+            &mut self.lines,
+            &mut self.places,
+            entry,
+            tables,
+            place,
+        )?;
         self.current = after;
         Ok(())
     }
+}
+
+/// An entry more at the end, with the rows of its place and the reply to its session that it stands there. After `NoMemory` all lists
+/// are as before.
+fn push_entry(
+    seats: &mut Vec<Seat>,
+    lines: &mut Vec<Line>,
+    places: &mut Vec<Tables>,
+    entry: Entry,
+    tables: Tables,
+    place: u64,
+) -> Result<(), NoMemory>
+    requires { place ≡ length places.old.items }
+    ensures places { OnOk result (places.new.items ≡ places.old.items ++ tables ∷ []) }
+    ensures lines { OnOk result (lines.new.items ≡ lines.old.items ++ line.Entry entry ∷ []) }
+    ensures seats { OnOk result (seats.new.items
+        ≡ told_seats seats.old.items entry.session (Reply (outcome.Placed place)) (length lines.old.items + 1)) }
+    ensures no_places { OnErr result (places.new.items ≡ places.old.items) }
+    ensures no_lines { OnErr result (lines.new.items ≡ lines.old.items) }
+    ensures no_seats { OnErr result (seats.new.items ≡ seats.old.items) }
+{
+    let session = entry.session;
+    let length = lines.len();
+    push_both(lines, places, Line::Entry(entry), tables)?;
+    let reply = LogLine::Reply(Outcome::Placed { place });
+    if let Err(NoMemory) = tell_seat(seats, session, reply, length as u64 + 1) {
+        lines.truncate(length);
+        places.truncate(place as usize);
+        return Err(NoMemory);
+    }
+    Ok(())
 }
 
 /// A line more at the end, and the reply to its session. After `NoMemory` both lists are as before.
@@ -196,10 +226,10 @@ fn push_line(
     ensures no_lines { OnErr result (lines.new.items ≡ lines.old.items) }
     ensures no_seats { OnErr result (seats.new.items ≡ seats.old.items) }
 {
+    let length = lines.len();
     lines.push(line)?;
-    let knew = lines.len() as u64;
-    if let Err(NoMemory) = tell_seat(seats, session, reply, knew) {
-        let _ = lines.pop();
+    if let Err(NoMemory) = tell_seat(seats, session, reply, length as u64 + 1) {
+        lines.truncate(length);
         return Err(NoMemory);
     }
     Ok(())
@@ -211,9 +241,10 @@ fn tell_seat(seats: &mut Vec<Seat>, session: u32, reply: LogLine, knew: u64) -> 
     ensures err { OnErr result (seats.new.items ≡ seats.old.items) }
 {
     if (session as usize) < seats.len() {
-        seats[session as usize].tell(reply, knew)?;
+        seats[session as usize].tell(reply, knew)
+    } else {
+        Ok(())
     }
-    Ok(())
 }
 
 /// The graph after a request, or its refusal with this front.

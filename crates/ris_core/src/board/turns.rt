@@ -1,10 +1,9 @@
 ghost use Rattle.std.specs.Prelude.{◌≡◌, IfOk, OnErr, OnOk, map};
 ghost use Rattle.ris_base.specs.Forest.{forest_in};
 ghost use Rattle.ris_base.specs.Machine.{next_of};
-ghost use Rattle.ris_core.specs.Moves.{IsMade, begun, begun_seat, celled, decided_with, is_candidate_as, is_candidate_next, stood_seats, undecided_entry};
-ghost use Rattle.ris_core.specs.Stands.{stand_of};
+ghost use Rattle.ris_core.specs.Moves.{IsMade, begun, begun_seat, celled, decided_with, is_candidate_as, is_candidate_next, undecided_entry};
 
-use super::Board;
+use super::{Board, next_at, stand_at};
 use crate::candidates::is_candidate;
 use crate::cells::{stripe_of, verdict_of};
 use crate::phases::{Phase, Stand};
@@ -76,25 +75,10 @@ impl Board {
         if self.phase != Phase::Cells {
             return Ok(None);
         }
-        let Some(seat) = self.seats.get(session as usize) else {
-            return Ok(None);
-        };
-        if seat.stand() != Stand::Undecided {
-            return Ok(None);
-        }
-        match seat.next() {
+        match next_at(&self.seats, session, Stand::Undecided) {
             Some(asked) => asked.entry(alloc, session),
             None => Ok(None),
         }
-    }
-}
-
-/// The next command of a session, where it has a seat, stands elsewhere.
-fn stand_at(seats: &mut Vec<Seat>, session: u32, stand: Stand)
-    ensures { seats.new.items ≡ stood_seats seats.old.items session (stand_of stand) }
-{
-    if (session as usize) < seats.len() {
-        seats[session as usize].move_to(stand);
     }
 }
 

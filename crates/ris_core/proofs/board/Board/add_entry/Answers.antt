@@ -12,8 +12,8 @@ pub invariant_of-self-2 : goal.invariant_of-self-2
 invariant_of-self-2 c =
     let lines = c.self.inside.lines.items in
     let e = c.args.entry in
-    let is = c.in_default.ensures.lines in
-    let places = c.in_ok-push.ensures.items in (
+    let is = c.in_ok-push_entry.ensures.lines in
+    let places = c.in_ok-push_entry.ensures.places in (
       c.requires.after ∙ ap (λ l. entered (graph_in l) e.parts) (sym c.self.view_is) ∙ sym (after-entry c.self.inside.opening lines e)
           ∙ sym (ap (λ ls. after c.self.inside.opening ls (front ls)) is ∙ ap (after c.self.inside.opening (lines ++ line.Entry e ∷ [])) (front-entry lines e)),
       (let a = ap length places in let b = length-append c.self.inside.places.items (c.args.tables ∷ []) in let f = ap front is in let g = front-entry lines e in let i = c.self.invariant.1 in omega arith),

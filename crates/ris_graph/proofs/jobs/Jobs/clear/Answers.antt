@@ -1,12 +1,21 @@
-use Rattle.std.proofs.Common.{sym, subst, arith}
-use Rattle.ris_graph.specs.Jobs.{AreJobs}
-use Rattle.ris_graph.proofs.JobLemmas.{AreJobs-none, AreTold-none, no_jobs-is}
+use Rattle.std.proofs.Common.{◌≡◌, ◌<◌, ◌∙◌, List, sym, ap, subst, arith}
+use Rattle.ris_graph.specs.Jobs.{AreAscending, AreJobs, AreTold, by_stripe, no_jobs}
+use Rattle.ris_graph.specs.declared.stripes.StripeJob.{StripeJob}
+use Rattle.ris_graph.proofs.JobLemmas.{AreJobs-none, AreTold-none}
+use Rattle.ris_graph.proofs.ListFacts.{AllPairs-nil}
+use Rattle.ris_graph.proofs.ListedJobs.{by_stripe-nil}
 use Rattle.ris_graph.proofs.jobs.Jobs.clear.Goals as goal
 
 pub invariant_of-self : goal.invariant_of-self
 invariant_of-self c =
-    let none = no_jobs-is c.loop-k.self-inside.lists.items c.loop-k.invariant.size (λ m lt. c.loop-k.invariant.done m (let test = c.loop-k-test.false in omega arith)) in
-    (subst AreJobs (sym none) AreJobs-none, rw none (AreTold-none c.loop-k.self-inside.verdicts.items c.loop-k.invariant.sessions))
+    let none : by_stripe c.clear.new.self.items ≡ no_jobs = ap by_stripe c.clear.ensures.items ∙ by_stripe-nil in
+    let room = c.self.invariant.3 in
+    let same = c.clear.ensures.capacity in (
+      subst AreJobs (sym none) AreJobs-none,
+      subst (λ (js : List (List StripeJob)). AreTold js c.self.inside.verdicts.items) (sym none) (AreTold-none c.self.inside.verdicts.items c.self.invariant.1.sessions),
+      subst AreAscending (sym c.clear.ensures.items) (AllPairs-nil (λ (i j : StripeJob). i.session < j.session)),
+      omega arith,
+    )
 
 pub returns : goal.returns
-returns c = no_jobs-is c.loop-k.self-inside.lists.items c.loop-k.invariant.size (λ m lt. c.loop-k.invariant.done m (let test = c.loop-k-test.false in omega arith))
+returns c = ap by_stripe c.clear.ensures.items ∙ by_stripe-nil

@@ -3,11 +3,11 @@ use Rattle.ris_rows.specs.Neighbours.{copies_of}
 use Rattle.ris_rows.specs.RowView.{RowView}
 use Rattle.ris_graph.specs.GraphView.{row_at}
 use Rattle.ris_graph.specs.Tables.{row_of}
-use Rattle.ris_graph.proofs.TableLemmas.{table-row}
+use Rattle.ris_graph.proofs.TableLemmas.{stripe-row}
 use Rattle.ris_graph.proofs.outs.OutRows.count.Goals as goal
 
 pub returns : goal.returns
 returns g c =
-    let row : row_of c.args.self.now c.args.u ≡ row_at c.index-table.result.now (c.args.u / 64)
-    = rw (← c.self.view_is) (table-row c.self.inside.tables.items c.args.u c.index-table.result.now c.self.invariant.0 c.index-table.ensures) in
-    c.count.ensures ∙ ap (λ (r : RowView). copies_of r.items c.args.end c.args.weight) (sym row)
+    let row : row_of c.args.self.now c.args.u ≡ row_at c.index-stripe.result.now.rows (c.args.u / 64)
+    = rw (← c.self.view_is) (stripe-row c.self.inside.stripes.items c.args.u c.index-stripe.result.now c.self.invariant.0 c.index-stripe.ensures) in
+    c.copies.ensures ∙ ap (λ (r : RowView). copies_of r.items c.args.end c.args.weight) (sym row)

@@ -20,7 +20,7 @@ pub returns-in-AddV-clause-fault : goal.returns-in-AddV-clause-fault
 returns-in-AddV-clause-fault g c =
     let graph = c.args.graph.now in
     let part : Update = AddV c.in-AddV.x in
-    let limits = within graph.format c.format.result c.args.part.now part c.format.ensures c.in_default.ensures c.in-AddV.is in
+    let limits = within graph.format c.format.result c.args.part.now part c.format.ensures.value c.in_default.ensures c.in-AddV.is in
     IfErr-weaker c.add_vertex.result (IsFault lacking graph c.args.self.now part) (IsFault objection graph c.args.self.now c.args.part.now)
     (λ f h. subst (λ (u : Update). IsFault objection graph c.args.self.now u f) (sym c.in-AddV.is) (fault-within graph c.args.self.now part limits f h)) c.add_vertex.ensures.fault
 
@@ -31,7 +31,7 @@ returns-in_err-take_copy-in-SetW-clause-fault g c =
     let s = c.in-SetW in
     let part : Update = SetW s.u s.v s.w s.w2 in
     let f = c.in_err-take_copy-in-SetW.field-0.0 in
-    let limits = within graph.format c.format.result c.args.part.now part c.format.ensures c.in_default.ensures s.is in
+    let limits = within graph.format c.format.result c.args.part.now part c.format.ensures.value c.in_default.ensures s.is in
     let fault : IsFault lacking graph old part f
     = subst (λ (t : Triple). IsFault lacking graph old (DelE t.source t.target t.weight) f) c.edge-in-SetW.ensures c.in_err-take_copy-in-SetW.ensures.fault in
     let q = err_from_is_err_and c.from_residual.result c.from_residual.ensures.1 in
@@ -65,7 +65,7 @@ returns-in_ok-take_copy-in-SetW-clause-fault g c =
     = subst (λ (t : Triple). IsStep graph old mid (DelE t.source t.target t.weight) c.args.number) c.edge-in-SetW.ensures c.in_ok-take_copy-in-SetW.ensures.ok in
     let free : IsFree lacking graph old (DelE s.u s.v s.w)
     = subst (λ (t : Triple). IsFree lacking graph old (DelE t.source t.target t.weight)) c.edge-in-SetW.ensures c.in_ok-take_copy-in-SetW.ensures.free in
-    let limits = within graph.format c.format.result c.args.part.now part c.format.ensures c.in_default.ensures s.is in
+    let limits = within graph.format c.format.result c.args.part.now part c.format.ensures.value c.in_default.ensures s.is in
     IfErr-weaker c.add_copy-in-SetW.result
     (IsFault lacking graph mid (AddE c.edge-in-SetW-2.result.source c.edge-in-SetW-2.result.target c.edge-in-SetW-2.result.weight))
     (IsFault objection graph old c.args.part.now)

@@ -1,0 +1,3 @@
+pub mod AnyForest
+pub mod Analyses
+pub mod Repairing

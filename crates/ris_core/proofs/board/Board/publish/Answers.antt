@@ -1,0 +1,4 @@
+use Rattle.ris_core.proofs.board.Board.publish.Goals as goal
+
+pub invariant_of-self : goal.invariant_of-self
+invariant_of-self c = c.self.invariant
