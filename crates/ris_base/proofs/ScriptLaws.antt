@@ -8,10 +8,10 @@ use Rattle.std.proofs.lemmas.Grind.{common_steps}
 use Rattle.std.proofs.lemmas.List.{length-map}
 use Rattle.std.proofs.lemmas.List.Elements.{All-append, All-cons, All-map, All-nil}
 use Rattle.ris_base.specs.Graph.{IsProperTriple, triple}
-use Rattle.ris_base.specs.Limits.{greatest_of, vertex_limit}
+use Rattle.ris_base.specs.Limits.{greatest_of, vertex_limit, session_limit}
 use Rattle.ris_base.specs.Lists.{numbers_below}
 use Rattle.ris_base.specs.Number.{number_of}
-use Rattle.ris_base.specs.Script.{Addv, Delv, Adde, Dele, Setw, Begin, Commit, Value, Parent, Path, Modified, Current, Release, Leave, Asks, Closes, Fault, Fields, Header, Opens, Part, Saying, Word, analysis_asked, at_most, base_by, base_of, commands_behind, commands_of, fault_at_end, first_fault, format_of, header_of, is_leave, newest_first, numbers_of, open_parts, opening_of, reading_by, said, said_by, saying_by, saying_of, sayings, script_behind, script_of_records, script_or_fault, sessions_built, sessions_within, takes_version, transaction_cause, version_of, word_said}
+use Rattle.ris_base.specs.Script.{Addv, Delv, Adde, Dele, Setw, Begin, Commit, Value, Parent, Path, Modified, Current, Release, Leave, Asks, Closes, Fault, Fields, Header, Opens, Part, Saying, Word, analysis_asked, at_most, base_by, base_of, commands_behind, commands_of, fault_at_end, first_fault, format_of, header_of, is_leave, newest_first, numbers_of, open_parts, opening_of, reading_by, said, said_by, saying_by, saying_of, sayings, script_behind, script_of_records, script_or_fault, sessions_within, takes_version, transaction_cause, version_of, word_said}
 use Rattle.ris_base.specs.Shape.{EndsByLeave, IsCommandFor, IsReadable}
 use Rattle.ris_base.specs.declared.commands.Command.{Command}
 use Rattle.ris_base.specs.declared.commands.Command.TheVariants as command
@@ -270,7 +270,7 @@ taken-keeps h analyses (fields ∷ before) s (none, taken) = by (said_by h s fie
 record IsWithin (h : Header) : Type 0 where
   vertices : h.vertices ≤ vertex_limit
   some : 1 ≤ h.sessions
-  few : h.sessions ≤ sessions_built
+  few : h.sessions ≤ session_limit
 
 header-within : (fields : Fields) (h : Header) → header_of fields ≡ Some h → IsWithin h
 unfolding header_of
@@ -280,7 +280,7 @@ header-within (a ∷ b ∷ []) h e = cc e
 header-within (a ∷ b ∷ c ∷ []) h e = cc e
 header-within (name ∷ format ∷ vertices ∷ sessions ∷ []) h e = by (bytes_eq name (codes "risgraph")) (format_of format) (number_of vertices) (number_of sessions) e
   where
-    ends : (f : Format) (n m : ℕ) (a b c : Bool) → nat_le n vertex_limit ≡ a → nat_le 1 m ≡ b → nat_le m sessions_built ≡ c
+    ends : (f : Format) (n m : ℕ) (a b c : Bool) → nat_le n vertex_limit ≡ a → nat_le 1 m ≡ b → nat_le m session_limit ≡ c
         → option_and_then (λ (n : ℕ). option_map (λ m. record { format = f; vertices = n; sessions = m }) (if b && c then Some m else None)) (if a then Some n else None) ≡ Some h
         → IsWithin h
     ends f n m false b c p q r d = cc d
@@ -308,7 +308,7 @@ header-within (name ∷ format ∷ vertices ∷ sessions ∷ []) h e = by (bytes
     by true None v s q = cc q
     by true (Some f) None s q = cc q
     by true (Some f) (Some n) None q = half f n (nat_le n vertex_limit) q
-    by true (Some f) (Some n) (Some m) q = ends f n m (nat_le n vertex_limit) (nat_le 1 m) (nat_le m sessions_built) refl refl refl q
+    by true (Some f) (Some n) (Some m) q = ends f n m (nat_le n vertex_limit) (nat_le 1 m) (nat_le m session_limit) refl refl refl q
 header-within (a ∷ b ∷ c ∷ d ∷ f ∷ rest) h e = cc e
 
 -- a base triple joins two vertices of the header, within the limit of its format

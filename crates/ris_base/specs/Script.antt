@@ -4,7 +4,7 @@ use Rattle.std.specs.Prelude.{ℕ, ◌+◌, ◌++◌, Bool, true, false, not, �
 use Rattle.std.specs.List.{list_any, filter_map}
 use Rattle.std.specs.Option.{option_and_then, option_map, option_or}
 use Rattle.std.specs.Str.{bytes_eq}
-use Rattle.ris_base.specs.Limits.{vertex_limit, greatest_of}
+use Rattle.ris_base.specs.Limits.{vertex_limit, greatest_of, session_limit}
 use Rattle.ris_base.specs.Lists.{numbers_below}
 use Rattle.ris_base.specs.Graph.{triple}
 use Rattle.ris_base.specs.Number.{number_of}
@@ -59,13 +59,9 @@ pub record Header : Type 0 where
 abbrev pub format_of : Bytes → Option Format
 format_of field = if bytes_eq field (codes "1") then Some One else if bytes_eq field (codes "2") then Some Two else None
 
--- the greatest number of sessions that is built so far
-abbrev pub sessions_built : ℕ
-sessions_built = 1
-
--- a number of sessions that a header may say
+-- a number of sessions that a header may say: 1 to 64
 abbrev pub sessions_within : ℕ → Option ℕ
-sessions_within n = if nat_le 1 n && nat_le n sessions_built then Some n else None
+sessions_within n = if nat_le 1 n && nat_le n session_limit then Some n else None
 
 -- the header `risgraph,<format>,<vertices>,<sessions>`, with 0 to 4,194,304 vertices
 unfoldable pub header_of : Fields → Option Header
@@ -124,16 +120,6 @@ is_of_format Two word = true
 is_of_format One Setw = false
 is_of_format One Leave = false
 is_of_format One word = true
-
--- whether a word is built: so far changes, transactions and reads of values
-abbrev pub is_built : Word → Bool
-is_built Parent = false
-is_built Path = false
-is_built Modified = false
-is_built Current = false
-is_built Release = false
-is_built Leave = false
-is_built word = true
 
 -- What a record says
 
@@ -224,7 +210,7 @@ session_said (name ∷ fields) = number_of name
 -- the word of a record, where it is one of the header's format
 abbrev pub word_said : Header → Fields → Option Word
 word_said h (name ∷ field ∷ fields) =
-    option_and_then (λ word. if is_of_format h.format word && is_built word then Some word else None) (word_of field)
+    option_and_then (λ word. if is_of_format h.format word then Some word else None) (word_of field)
 word_said h _ = None
 
 -- what a record of a session says

@@ -2,8 +2,8 @@
 use Rattle.std.specs.Prelude.{◌≡◌, ℕ, ◌<◌, ◌≤◌, List, [], ◌∷◌, length, ⊤}
 use Rattle.std.specs.List.{All}
 use Rattle.ris_base.specs.Graph.{IsProper}
-use Rattle.ris_base.specs.Limits.{vertex_limit}
-use Rattle.ris_base.specs.Script.{opening_of, sessions_built}
+use Rattle.ris_base.specs.Limits.{session_limit, vertex_limit}
+use Rattle.ris_base.specs.Script.{opening_of}
 use Rattle.ris_base.specs.declared.commands.Command.{Command}
 use Rattle.ris_base.specs.declared.commands.Command.TheVariants.{Change, Release, Leave, Value, Parent, Path, Modified, Current}
 use Rattle.ris_base.specs.declared.scripts.Script.{Script}
@@ -31,8 +31,8 @@ pub record IsReadable (analyses : ℕ) (script : Script) : Type 0 where
   pub vertices : script.vertices ≤ vertex_limit
   -- it has a session
   pub some : 1 ≤ script.sessions
-  -- it has no more sessions than are built
-  pub few : script.sessions ≤ sessions_built
+  -- it has at most 64 sessions
+  pub few : script.sessions ≤ session_limit
   -- each session has its list of commands
   pub lists : length script.commands ≡ script.sessions
   -- its graph of place 0 is proper

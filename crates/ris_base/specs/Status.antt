@@ -39,13 +39,11 @@ pub record Stream : Type 0 where
 abbrev pub stream_of : {S : Type 0} → (S → Option (List ℕ)) → (S → ℕ) → S → S → Stream
 stream_of bytes faults old new = record { before = bytes old; after = bytes new; faults_before = faults old; faults_after = faults new }
 
--- what a call makes of its words and its input: the job that it takes the words as; the script that it reads for the job in the
--- input's bytes, or makes without an input, or the script's first fault; and how many visits a transcript of a script may take,
--- beside what it may take by definition
+-- what a call makes of its words and its input: the job that it takes the words as; and the script that it reads for the job in the
+-- input's bytes, or makes without an input, or the script's first fault
 pub record Program : Type 1 where
   pub Takes : List Bytes → Job → Type 0
   pub script : Job → Bytes → Result Script Fault
-  pub Visits : Script → List Spec → Transcript → ℕ → Type 0
 
 -- the analyses of a job: those of its command line, and for a script that is made depth and shortest path from vertex 0 and
 -- components
@@ -188,7 +186,6 @@ pub record IsTextOf (program : Program) (job : Job) (script : Script) (visits : 
   pub right : IsTranscriptOf (setup_of script (specs_of job)) script.commands transcript
   pub last : transcript.summary.visits ≡ visits
   pub bounded : AreBounded script (specs_of job) transcript visits
-  pub within : program.Visits script (specs_of job) transcript visits
   pub text_is : text ≡ written job transcript
 
 -- The headline. The words say a job that the call takes, its script was read or made, and where the output tells its bytes it grew by

@@ -1,7 +1,7 @@
 -- How the split of a batch grows by one request.
-use Rattle.std.proofs.Common.{◌≡◌, ℕ, ◌+◌, ◌<◌, ◌≤◌, ◌==◌, ◌||◌, if◌then◌else◌, inl, inr, Bool, true, false, List, [], ◌∷◌, ◌++◌, length, map, get_or, nat_le, arith, refl, sym, subst, ap, ◌∙◌, cond}
+use Rattle.std.proofs.Common.{◌≡◌, ℕ, ◌+◌, ◌<◌, ◌≤◌, ◌==◌, ◌||◌, ◌⊎◌, if◌then◌else◌, inl, inr, Bool, true, false, List, [], ◌∷◌, ◌++◌, length, map, get_or, nat_le, arith, refl, sym, subst, ap, ◌∙◌, cond}
 use Rattle.std.specs.List.{All, Contains, list_any}
-use Rattle.std.proofs.lemmas.Bool.{le-leb}
+use Rattle.std.proofs.lemmas.Bool.{cases_lt, le-leb}
 use Rattle.std.proofs.lemmas.List.{append-nil, length-append, length-map, map-append}
 use Rattle.std.proofs.lemmas.List.Elements.{All-contains, All-from_get_or, All-head, All-nil, All-tail, Contains-append_left, Contains-append_right, filter-append}
 use Rattle.ris_base.specs.Epoch.{Ground, Resolved}
@@ -19,14 +19,18 @@ use Rattle.ris_graph.specs.Jobs.{EachJob, HasSession, IsJob, no_jobs, with_job}
 use Rattle.ris_graph.specs.Phase.{IsReady}
 use Rattle.ris_graph.specs.declared.stripes.StripeJob.{StripeJob}
 use Rattle.ris_graph.proofs.JobLemmas.{AreJobs-none, IsJob-at, job-stripe, no_jobs-at}
+use Rattle.ris_graph.proofs.ListFacts.{AllPairs-nil}
 use Rattle.ris_epoch.specs.Account.{IsBatch, IsSplit, is_candidate_behind}
 use Rattle.ris_epoch.specs.Driving.{first_part, job_of, no_memory_for, of_stripe}
 use Rattle.ris_epoch.specs.DriverView.{DriverView, StandsFor}
 use Rattle.ris_epoch.specs.Ordering.{AreOrdered, inserted_by, stripe_by_entry}
-use Rattle.ris_epoch.specs.Turning.{HasBegun, IsNext}
+use Rattle.ris_epoch.specs.TurnOrder.{IsSealedBefore}
+use Rattle.ris_epoch.specs.Turning.{AreByStripes, HasBegun, IsNext}
 use Rattle.ris_epoch.proofs.CandidateFacts.{added_job, all-ready-room, each-with_job, length-with_job, with_job-at}
 use Rattle.ris_epoch.proofs.FirstItems.{ordered-before}
 use Rattle.ris_epoch.proofs.OrderingLemmas.{filter-inserted, length-inserted, ordered-bounds, ordered-inserted, ordered-length, ordered-once}
+use Rattle.ris_epoch.proofs.Pairs.{AllPairs-inserted}
+use Rattle.ris_epoch.proofs.SealSteps.{has-order}
 use Rattle.ris_epoch.proofs.SettledGraphs.{same-stripe}
 use Rattle.ris_epoch.proofs.Splits.{ArePartsOf, parts-of, split-candidate, split-none, split-other, split-want, submits}
 use Rattle.ris_epoch.proofs.Stands.{Contains-map, Contains-mapped}
@@ -150,6 +154,7 @@ module _ (ground : Ground) (records : List Record) (batch : List Request) (d : D
       ordered = ordered-inserted 0 rest r h.ordered (omega arith) next.within none-waits;
       by_stripe = h.by_stripe;
       many = h.many;
+      rises = h.rises;
       stands = h.stands;
       stripes = h.stripes;
       jobs = h.jobs;
@@ -172,6 +177,7 @@ module _ (ground : Ground) (records : List Record) (batch : List Request) (d : D
     ordered = h.ordered;
     by_stripe = h.by_stripe;
     many = h.many;
+    rises = h.rises;
     stands = stands-as d f ground records h.stands graph analyses opening lines;
     stripes = ap length jobs ∙ h.stripes;
     jobs = λ m lt. ap (λ (js : List (List StripeJob)). get_or js m []) jobs ∙ h.jobs m lt;
@@ -193,6 +199,7 @@ module _ (ground : Ground) (records : List Record) (batch : List Request) (d : D
       ordered = h.ordered;
       by_stripe = h.by_stripe;
       many = h.many;
+      rises = h.rises;
       stands = stands-same d _ ground records h.stands refl refl refl refl;
       stripes = h.stripes;
       jobs = h.jobs;
@@ -224,6 +231,24 @@ module _ (ground : Ground) (records : List Record) (batch : List Request) (d : D
         put true = ap (λ (j : StripeJob). map job_of (of_stripe m h.candidates) ++ j ∷ []) job
         put false = sym (append-nil (map job_of (of_stripe m h.candidates)))
 
+    -- it comes behind those of its stripe, and they stay in the order of their stripes
+    rises-more : AreByStripes (inserted_by stripe_by_entry order e)
+    rises-more =
+        AllPairs-inserted (λ (x later : Entry). IsSealedBefore (stripe_of x.parts) x.session (stripe_of later.parts) later.session) stripe_by_entry order e
+        (λ x later before. low x later before) (λ x less. inl less)
+        (All-from_Contains (λ (x : Entry). stripe_of x.parts ≤ stripe_of e.parts → IsSealedBefore (stripe_of x.parts) x.session (stripe_of e.parts) e.session) order
+        (λ x at up. under x (lesser (request.Submit e) next (request.Submit x) (candidate-known x (has-order h.candidates order h.by_stripe x at))) (cases_lt (stripe_of x.parts) (stripe_of e.parts)) up))
+        h.rises
+      where
+        low : (x later : Entry) → IsSealedBefore (stripe_of x.parts) x.session (stripe_of later.parts) later.session → stripe_of x.parts ≤ stripe_of later.parts
+        low x later (inl less) = omega arith
+        low x later (inr same) = let is = same.0 in omega arith
+
+        under : (x : Entry) → x.session < e.session → (stripe_of x.parts < stripe_of e.parts) ⊎ (stripe_of e.parts ≤ stripe_of x.parts) → stripe_of x.parts ≤ stripe_of e.parts
+            → IsSealedBefore (stripe_of x.parts) x.session (stripe_of e.parts) e.session
+        under x before (inl less) up = inl less
+        under x before (inr over) up = inr (omega arith, before)
+
     -- one candidate more that gets its job
     pub begun-candidate : (update : Update) (f : DriverView) → e.parts ≡ update ∷ [] → f ≡ record d { jobs = with_job d.jobs e.session update }
         → IsReady d.graph (added_job e.session update) → length order + 1 ≤ d.journal.spare → length order + 1 ≤ d.record_room
@@ -237,6 +262,7 @@ module _ (ground : Ground) (records : List Record) (batch : List Request) (d : D
       by_stripe = λ k. filter-inserted stripe_by_entry k order e ∙ ap (λ (es : List Entry). es ++ (if stripe_by_entry e == k then e ∷ [] else [])) (h.by_stripe k)
           ∙ put (stripe_by_entry e == k) (of_stripe k h.candidates) ∙ sym (filter-append (λ (x : Entry). stripe_by_entry x == k) h.candidates (e ∷ []));
       many = length-inserted stripe_by_entry order e ∙ (let long = length-append h.candidates (e ∷ []) in let all = h.many in omega arith);
+      rises = rises-more;
       stands = stands-same d _ ground records h.stands refl refl refl refl;
       stripes = length-with_job d.jobs e.session update ∙ h.stripes;
       jobs = jobs-more update part;
@@ -271,6 +297,7 @@ begun-none ground records d stands jobs given replies = record {
   ordered = omega arith;
   by_stripe = λ k. refl;
   many = refl;
+  rises = AllPairs-nil (λ (e later : Entry). IsSealedBefore (stripe_of e.parts) e.session (stripe_of later.parts) later.session);
   stands = stands;
   stripes = ap length jobs ∙ AreJobs-none.stripes;
   jobs = λ m lt. ap (λ (js : List (List StripeJob)). get_or js m []) jobs ∙ no_jobs-at m;

@@ -15,7 +15,8 @@ use Rattle.ris_base.specs.declared.records.Record.{Record}
 use Rattle.ris_base.specs.declared.requests.Request.{Request}
 use Rattle.ris_base.specs.declared.requests.Request.TheVariants as request
 use Rattle.ris_base.proofs.ListLemmas.{Contains-first}
-use Rattle.ris_epoch.specs.Account.{bounced, bounces, decided_behind, decision, forests_behind, graph_behind, is_bounced, is_logged, log_of}
+use Rattle.ris_phase.specs.Cells.{is_bounced as bounces}
+use Rattle.ris_epoch.specs.Account.{bounced, decided_behind, decision, forests_behind, graph_behind, is_bounced, is_logged, log_of}
 use Rattle.ris_epoch.proofs.Deciding.{log-more}
 use Rattle.ris_epoch.proofs.Seatings.{Seating, goes-logged, goes-tail}
 use Rattle.ris_epoch.proofs.Splits.{submits}

@@ -8,6 +8,7 @@ pub mod DeltaChanges
 pub mod FirstItems
 pub mod OpeningSteps
 pub mod OrderingLemmas
+pub mod Pairs
 pub mod PhaseLogs
 pub mod PhaseVerdicts
 pub mod RenewSteps
@@ -28,7 +29,9 @@ pub mod StripeMerges
 pub mod TailRuns
 pub mod TailSteps
 pub mod TurnEpochs
+pub mod TurnOrders
 pub mod TurnParts
+pub mod TurnReaches
 pub mod TurnRight
 pub mod TurnSteps
 pub mod TurnVisits

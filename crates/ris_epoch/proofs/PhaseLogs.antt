@@ -13,7 +13,7 @@ use Rattle.ris_base.specs.declared.updates.Update.{Update}
 use Rattle.ris_legal.proofs.Cells.{of_stripe}
 use Rattle.ris_phase.specs.Cells
 use Rattle.ris_phase.specs.Cells.{celled, cells, logged, logs}
-use Rattle.ris_epoch.specs.Account.{bounces, decided_behind, decision, is_bounced, is_logged, log_of}
+use Rattle.ris_epoch.specs.Account.{decided_behind, decision, is_bounced, is_logged, log_of}
 use Rattle.ris_epoch.specs.Driving.{first_part, job_of}
 use Rattle.ris_epoch.proofs.Deciding.{log-more}
 use Rattle.ris_epoch.proofs.StripeMerges.{is_of, log_behind}
@@ -24,13 +24,6 @@ use Rattle.ris_epoch.proofs.StripeMerges.{is_of, log_behind}
 pub record IsNumbered (seq : ℕ → ℕ) (e : Entry) : Type 0 where
   pub one : e.parts ≡ first_part e.parts ∷ []
   pub numbered : seq e.session ≡ e.seq
-
--- the two words for what bounces
-same-bounce : (v : Verdict) → Cells.is_bounced v ≡ bounces v
-same-bounce Applied = refl
-same-bounce NoEdge = refl
-same-bounce Bounced = refl
-same-bounce Waiting = refl
 
 -- the decision of a cell on a candidate where its stripe has this log
 abbrev pub cell_on : PlainGraph → List Forest → List Decided → Entry → Decided
@@ -45,7 +38,7 @@ cells_on p forests log (e ∷ candidates) =
 module _ (p : PlainGraph) (forests : List Forest) (seq : ℕ → ℕ) where
   -- a log with one decision more
   logged-same : (log : List Decided) (d : Decided) → logged log d ≡ (if is_bounced d then log else log ++ d ∷ [])
-  logged-same log d = ap (λ (b : Bool). if b then log else log ++ d ∷ []) (same-bounce d.verdict)
+  logged-same log d = refl
 
   -- the job of a candidate is decided as the candidate is
   job-decision : (log : List Decided) (e : Entry) → IsNumbered seq e → Cells.decision seq (celled p forests log (job_of e)) ≡ cell_on p forests log e

@@ -19,7 +19,8 @@ use Rattle.ris_base.specs.declared.updates.Update.{Update}
 use Rattle.ris_base.proofs.ListLemmas.{Contains-first, Contains-rest}
 use Rattle.ris_legal.proofs.Cells.{AreMerged, Follows, IsStage, first-stage, follows, merged-here, merged-rest, stripe_log}
 use Rattle.ris_legal.proofs.Sealing.{one-part}
-use Rattle.ris_epoch.specs.Account.{IsMerge, IsSplit, bounces, decisions_on, entry_record, forests_behind, front_of, graph_behind, is_bounced, is_candidate_behind, records_of}
+use Rattle.ris_phase.specs.Cells.{is_bounced as bounces}
+use Rattle.ris_epoch.specs.Account.{IsMerge, IsSplit, decisions_on, entry_record, forests_behind, front_of, graph_behind, is_bounced, is_candidate_behind, records_of}
 use Rattle.ris_epoch.specs.Laws.{IsDue}
 use Rattle.ris_epoch.proofs.Deciding.{decided-entry, merge-verdicts, merged-in}
 use Rattle.ris_epoch.proofs.Splits.{parts-of, submits}

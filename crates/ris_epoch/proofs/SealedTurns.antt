@@ -2,11 +2,12 @@
 use Rattle.std.proofs.Common.{◌≡◌, ◌↔◌, ℕ, ◌<◌, inl, inr, IsTrue, List, [], ◌∷◌, ◌++◌, length, map, get_or, arith, sym, subst, ap, ◌∙◌}
 use Rattle.std.specs.List.{All, Contains, filter}
 use Rattle.std.proofs.lemmas.List.Elements.{All-contains, All-weaker, Contains-append_left, Contains-append_right}
+use Rattle.std.proofs.lemmas.List.Kept.{AllPairs-filter}
 use Rattle.ris_base.specs.Epoch.{Ground, Resolved}
 use Rattle.ris_base.specs.Forest.{Forest, AreForests}
 use Rattle.ris_base.specs.Graph.{EachOnce}
 use Rattle.ris_base.specs.Lines.{front}
-use Rattle.ris_base.specs.Machine.{Decided, session_by}
+use Rattle.ris_base.specs.Machine.{Decided, session_by, stripe_of}
 use Rattle.ris_base.specs.Records.{lines_of}
 use Rattle.ris_base.specs.declared.events.Verdict.{Verdict}
 use Rattle.ris_base.specs.declared.graphs.Format.{Format}
@@ -34,9 +35,11 @@ use Rattle.ris_epoch.specs.DriverView.{DriverView, Fits, StandsFor}
 use Rattle.ris_epoch.specs.Laws.{IsDue}
 use Rattle.ris_epoch.specs.Ordering.{AreOrdered}
 use Rattle.ris_epoch.specs.Sealing.{AreVerdicts, all_told, all_waiting, outcomes_if, records_if, told_by}
-use Rattle.ris_epoch.specs.Turning.{HasBegun, HasSealed}
+use Rattle.ris_epoch.specs.TurnOrder.{IsSealedBefore}
+use Rattle.ris_epoch.specs.Turning.{AreSealed, HasBegun, HasSealed}
 use Rattle.ris_epoch.proofs.Deciding.{decided-sessions}
 use Rattle.ris_epoch.proofs.OrderingLemmas.{ordered-once}
+use Rattle.ris_epoch.proofs.Pairs.{AllPairs-map}
 use Rattle.ris_epoch.proofs.PhaseVerdicts.{decisions-told, has-job, merge-order, numbers, verdicts, verdicts-jobs}
 use Rattle.ris_epoch.proofs.SealRuns.{map-twice}
 use Rattle.ris_epoch.proofs.SealStages.{IsSealing, sealing}
@@ -153,6 +156,12 @@ module _ (ground : Ground) (records : List Record) (batch : List Request) (old n
   merge : IsMerge (decisions_on ground records h.candidates) merged
   merge = subst (λ (ds : List Decided). IsMerge ds merged) (sym decided) (told-merge told h.candidates order h.by_stripe)
 
+  rises : AreSealed merged
+  rises =
+      AllPairs-filter (λ (d later : Decided). IsSealedBefore (stripe_of d.entry.parts) d.entry.session (stripe_of later.entry.parts) later.entry.session) stays (all_told told order)
+      (AllPairs-map (λ (d later : Decided). IsSealedBefore (stripe_of d.entry.parts) d.entry.session (stripe_of later.entry.parts) later.entry.session)
+      (λ (e : Entry). told_by e (told e.session)) order h.rises)
+
   made : records_if (all_told told order) ≡ records_of merged
   made = records-if (all_told told order)
 
@@ -234,6 +243,7 @@ module _ (ground : Ground) (records : List Record) (batch : List Request) (old n
     merged = merged;
     split = h.split;
     merge = merge;
+    rises = rises;
     ordered = subst (AreOrdered 0) (sym (s.rest_is told are)) (waiting-ordered told waiting order h.ordered (order-once h.candidates order h.by_stripe once) apart);
     each = λ r. (
       λ at. elim (waiting-has waiting (all_told told order) r (subst (λ (rs : List Request). Contains rs r) (s.rest_is told are) at)) [

@@ -1,5 +1,5 @@
 -- The tail of a turn: each request is handled by one step, on the records so far.
-use Rattle.std.proofs.Common.{◌≡◌, ℕ, ◌+◌, ◌<◌, ◌≤◌, ◌⊎◌, inl, inr, true, false, nat_lt, List, [], ◌∷◌, ◌++◌, length, Option, Some, None, refl, sym, subst, ap, ◌∙◌, append_assoc, arith}
+use Rattle.std.proofs.Common.{◌≡◌, ℕ, ◌+◌, ◌<◌, ◌≤◌, ◌⊎◌, inl, inr, true, false, nat_lt, List, [], ◌∷◌, ◌++◌, length, map, Option, Some, None, refl, sym, subst, ap, ◌∙◌, append_assoc, arith}
 use Rattle.std.specs.List.{All}
 use Rattle.std.proofs.lemmas.Bool.{lt-ltb, le-ltb, cond-true, cond-false}
 use Rattle.std.proofs.lemmas.List.{append-nil}
@@ -26,6 +26,7 @@ use Rattle.ris_base.specs.declared.requests.Request.TheVariants as request
 use Rattle.ris_base.proofs.LineLemmas.{front-leave, front-mark}
 use Rattle.ris_base.proofs.ListLemmas.{Contains-first}
 use Rattle.ris_epoch.specs.Account.{IsEarly, IsEntered, IsHandled, IsLeft, IsMarked, IsRefused, IsTail, IsWanting, IsWithinReach, entry_record, forests_behind, front_of, graph_behind, resolved}
+use Rattle.ris_epoch.specs.TurnOrder.{session_in}
 use Rattle.ris_epoch.proofs.Seatings.{find-here, told-tail}
 use Rattle.ris_algo.proofs.RecordLemmas.{lines_of-append, places-entry, places-same}
 use Rattle.ris_epoch.proofs.SealRuns.{tabled-lines}
@@ -70,6 +71,7 @@ pub record Answering (ground : Ground) (batch : List Request) (records : List Re
   pub new : State
   pub happens : Happens s step new
   pub of_tail : is_of_tail step ≡ true
+  pub session : session_in step ≡ session_by r
   pub stage : Stage ground batch next Serially new [] [] [] tail (outcomes ++ resolved r told ∷ [])
   pub answered : IsAnswered batch records r next step visits
 
@@ -105,6 +107,7 @@ module _ (ground : Ground) (batch : List Request) (records : List Record) (s : S
         new = record s { book = told s.book (session_by r) (Reply (outcome.Refused refusal.NoMemory)) };
         happens = record { asked = asked_by r; next = its.next; where_ = inr (h.at, its.here); after = refl };
         of_tail = refl;
+        session = refl;
         stage =
             subst (λ (rs : List Record). Stage ground batch rs Serially (record s { book = told s.book (session_by r) (Reply (outcome.Refused refusal.NoMemory)) }) [] [] [] tail (outcomes ++ resolved r o ∷ []))
             (sym a.same)
@@ -129,6 +132,7 @@ module _ (ground : Ground) (batch : List Request) (records : List Record) (s : S
           (sym (ap (λ (g : PlainGraph). refusal_of g e.parts) (graph-is ground records s h.setup h.book) ∙ a.refused)) (refl, refl);
     };
     of_tail = refl;
+    session = refl;
     stage =
         subst (λ (rs : List Record). Stage ground batch rs Serially t [] [] [] tail (outcomes ++ resolved r o ∷ [])) (sym a.same)
         (subst (λ (x : Outcome). Stage ground batch records Serially t [] [] [] tail (outcomes ++ resolved r x ∷ []))
@@ -169,6 +173,7 @@ module _ (ground : Ground) (batch : List Request) (records : List Record) (s : S
           (sym (ap (λ (g : PlainGraph). refusal_of g e.parts) (graph-is ground records s h.setup h.book) ∙ a.accepted)) (right, refl);
     };
     of_tail = refl;
+    session = refl;
     stage =
         subst (λ (rs : List Record). Stage ground batch rs Serially t [] [] [] tail (outcomes ++ resolved r o ∷ [])) (sym a.longer)
         (subst (λ (x : Outcome). Stage ground batch (records ++ entry_record e a.changes ∷ []) Serially t [] [] [] tail (outcomes ++ resolved r x ∷ []))
@@ -204,6 +209,7 @@ module _ (ground : Ground) (batch : List Request) (records : List Record) (s : S
     new = record s { book = marked s.book session seq upto };
     happens = record { asked = asked_by r; upto = upto; tail = in-tail r h; is = refl; after = refl };
     of_tail = refl;
+    session = refl;
     stage =
         subst (λ (rs : List Record). Stage ground batch rs Serially (record s { book = marked s.book session seq upto }) [] [] [] tail (outcomes ++ resolved r o ∷ [])) (sym a.same)
         (subst (λ (x : Outcome). Stage ground batch records Serially (record s { book = marked s.book session seq upto }) [] [] [] tail (outcomes ++ resolved r x ∷ []))
@@ -232,6 +238,7 @@ module _ (ground : Ground) (batch : List Request) (records : List Record) (s : S
     new = record s { book = marked s.book session seq upto };
     happens = record { asked = asked_by r; upto = upto; tail = in-tail r h; is = refl; after = refl };
     of_tail = refl;
+    session = refl;
     stage =
         subst (λ (rs : List Record). Stage ground batch rs Serially (record s { book = marked s.book session seq upto }) [] [] [] tail (outcomes ++ resolved r o ∷ [])) (sym a.longer)
         (subst (λ (x : Outcome). Stage ground batch (records ++ mark ∷ []) Serially (record s { book = marked s.book session seq upto }) [] [] [] tail (outcomes ++ resolved r x ∷ []))
@@ -270,6 +277,7 @@ module _ (ground : Ground) (batch : List Request) (records : List Record) (s : S
     new = t;
     happens = record { asked = asked_by r; tail = in-tail r h; is = refl; after = refl };
     of_tail = refl;
+    session = refl;
     stage =
         subst (λ (rs : List Record). Stage ground batch rs Serially t [] [] [] tail (outcomes ++ resolved r o ∷ [])) (sym a.longer)
         (subst (λ (x : Outcome). Stage ground batch (records ++ leave ∷ []) Serially t [] [] [] tail (outcomes ++ resolved r x ∷ []))
@@ -315,6 +323,7 @@ pub record TailRun (ground : Ground) (batch : List Request) (records : List Reco
   pub final : State
   pub run : Run s steps final
   pub of_tail : All (λ step. is_of_tail step ≡ true) steps
+  pub sessions : map session_in steps ≡ map session_by tail
   pub stage : Stage ground batch more Serially final [] [] [] [] outcomes
   pub trace : IsTrace ground batch records tail more steps visits
 
@@ -328,6 +337,7 @@ tail-run ground batch [] records s told more outcomes visits h a = record {
   final = s;
   run = refl;
   of_tail = All-nil (λ step. is_of_tail step ≡ true);
+  sessions = refl;
   stage =
       subst (λ (rs : List Record). Stage ground batch rs Serially s [] [] [] [] (told ++ outcomes)) (sym a.0)
       (subst (λ (os : List Resolved). Stage ground batch records Serially s [] [] [] [] os) (sym (ap (λ (os : List Resolved). told ++ os) a.1 ∙ append-nil told)) h);
@@ -341,6 +351,7 @@ tail-run ground batch (r ∷ tail) records s told more outcomes visits h a =
       final = rest.final;
       run = (one.new, one.happens, rest.run);
       of_tail = All-cons (λ step. is_of_tail step ≡ true) one.step rest.steps one.of_tail rest.of_tail;
+      sessions = ap (λ (s : ℕ). s ∷ map session_in rest.steps) one.session ∙ ap (λ (ss : List ℕ). session_by r ∷ ss) rest.sessions;
       stage = subst (λ (os : List Resolved). Stage ground batch more Serially rest.final [] [] [] [] os)
           (append_assoc told (resolved r a.1 ∷ []) a.2 ∙ ap (λ (os : List Resolved). told ++ os) (sym a.8)) rest.stage;
       trace = (a.0, one.step, rest.steps, a.3, a.4, one.answered, a.6, rest.trace, refl, a.9);

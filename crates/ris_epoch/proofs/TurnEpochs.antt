@@ -13,6 +13,7 @@ use Rattle.ris_base.specs.declared.requests.Request.{Request}
 use Rattle.ris_base.specs.declared.requests.Request.TheVariants as request
 use Rattle.ris_base.proofs.ListLemmas.{All-from_Contains, Contains-none}
 use Rattle.ris_epoch.specs.Account.{IsBatch, IsTurnAccount, bounced, decisions_on, entry_record, forests_behind, front_of, graph_behind, is_candidate_behind, outcomes_of, records_of}
+use Rattle.ris_epoch.specs.TurnOrder.{session_in}
 use Rattle.ris_epoch.proofs.Beginning.{begun-stage, begun_state, first-stage, leads-wants, no_memory}
 use Rattle.ris_epoch.proofs.CellRuns.{cell_on, leads-cells}
 use Rattle.ris_epoch.proofs.Deciding.{decided-sessions}
@@ -58,12 +59,16 @@ all-queued batch seats outcomes h n = go (seats n).stand refl
 
 -- The epoch
 
--- the epoch of an account: its seal leaves the account's records, and its steps of the tail answer the account's requests
+-- the epoch of an account: its seal leaves the account's records, its steps of the tail answer the account's requests, and its cells,
+-- its merge and its tail are those of the account
 pub record EpochOf (ground : Ground) (records : List Record) (batch : List Request) (more : List Record) (outcomes : List Resolved) (visits : ℕ)
     (a : IsTurnAccount ground records batch more outcomes visits) : Type 0 where
   pub epoch : IsEpoch ground records batch more outcomes
   pub sealed : epoch.sealed.book.lines ≡ lines_of (records ++ records_of a.merged)
   pub trace : IsTrace ground batch (records ++ records_of a.merged) a.tail more epoch.tail visits
+  pub cells_are : epoch.cells ≡ map cell_on a.candidates
+  pub order_is : epoch.order ≡ map (λ d. d.entry.session) a.merged
+  pub tail_is : map session_in epoch.tail ≡ map session_by a.tail
 
 module _ (ground : Ground) (records : List Record) (batch : List Request) (more : List Record) (outcomes : List Resolved) (visits : ℕ)
     (due : IsBatch ground batch) (a : IsTurnAccount ground records batch more outcomes visits) where
@@ -171,4 +176,7 @@ module _ (ground : Ground) (records : List Record) (batch : List Request) (more 
         };
         sealed = first-run.holds.book.lines;
         trace = rest.trace;
+        cells_are = refl;
+        order_is = refl;
+        tail_is = rest.sessions;
       }

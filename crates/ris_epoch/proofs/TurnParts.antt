@@ -14,9 +14,10 @@ use Rattle.ris_graph.specs.Ticks.{IsRise}
 use Rattle.ris_epoch.specs.Account.{IsBatch, records_of}
 use Rattle.ris_epoch.specs.DriverView.{DriverView, StandsFor}
 use Rattle.ris_epoch.specs.Ordering.{AreOrdered}
+use Rattle.ris_epoch.specs.TurnOrder.{IsInOrder}
 use Rattle.ris_epoch.specs.Turning.{HandlesAll, HasBegun, HasSealed, IsBegun}
 use Rattle.ris_epoch.proofs.OrderingLemmas.{ordered-once}
-use Rattle.ris_epoch.proofs.TurnSteps.{empty-of, front-stands, length-begun, sealed-none, tail-known, turned}
+use Rattle.ris_epoch.proofs.TurnSteps.{empty-of, front-stands, length-begun, sealed-none, tail-known, turned, turned-in-order}
 
 -- the batch of a turn is one that a driver may take: its sessions ascend, and exist
 pub record IsTaken (batch : List Request) (d : DriverView) : Type 0 where
@@ -111,3 +112,12 @@ module _ (batch : List Request) (d m e : DriverView) (tail : List Request) (befo
       turned ground records batch m e tail before after
       (record { right = stands.right; proper = stands.fits.graph_is.proper; taken = taken-batch batch d d ground records taken refl stands })
       s (handles ground (records ++ records_of s.merged) s.stands)
+
+  -- and goes in order
+  pub at-order : IsTaken batch d → (ground : Ground) (records : List Record) → StandsFor d ground records
+      → (epoch : IsEpoch ground records batch (records ++ e.records) e.replies) × IsInOrder batch epoch.cells epoch.order epoch.tail
+  at-order taken ground records stands =
+      let s = at.sealed ground records stands in
+      turned-in-order ground records batch m e tail before after
+      (record { right = stands.right; proper = stands.fits.graph_is.proper; taken = taken-batch batch d d ground records taken refl stands })
+      s (handles ground (records ++ records_of s.merged) s.stands) taken.ordered

@@ -5,17 +5,20 @@ use Rattle.std.proofs.lemmas.List.{append-nil, length-map}
 use Rattle.std.proofs.lemmas.List.Elements.{Contains-append_left, Contains-append_right}
 use Rattle.ris_base.specs.Epoch.{Ground, IsEpoch, IsTurnReach, Resolved}
 use Rattle.ris_base.specs.Lines.{front}
-use Rattle.ris_base.specs.Machine.{Decided, Step}
+use Rattle.ris_base.specs.Machine.{Decided, Step, stripe_of}
 use Rattle.ris_base.specs.declared.lines.Entry.{Entry}
 use Rattle.ris_base.specs.declared.records.Record.{Record}
 use Rattle.ris_base.specs.declared.requests.Request.{Request}
 use Rattle.ris_base.specs.declared.requests.Request.TheVariants as request
 use Rattle.ris_base.proofs.ListLemmas.{Contains-filter, Contains-none}
 use Rattle.ris_graph.specs.Ticks.{IsRise}
+use Rattle.ris_graph.proofs.ListFacts.{AllPairs-nil}
 use Rattle.ris_epoch.specs.Account.{IsSplit, IsTail, IsTurnAccount, decided_behind, decisions_on, forests_behind, front_of, graph_behind, is_bounced, is_candidate_behind, records_of}
 use Rattle.ris_epoch.specs.Driving.{no_memory_for}
 use Rattle.ris_epoch.specs.DriverView.{DriverView, StandsFor}
 use Rattle.ris_epoch.specs.Laws.{IsDue}
+use Rattle.ris_epoch.specs.Ordering.{AreOrdered}
+use Rattle.ris_epoch.specs.TurnOrder.{IsInOrder, IsSealedBefore}
 use Rattle.ris_epoch.specs.Turning.{HandlesAll, HasBegun, HasSealed}
 use Rattle.ris_epoch.proofs.AccountSteps.{outcomes_of-none, records_of-none}
 use Rattle.ris_epoch.proofs.Deciding.{decided-entry}
@@ -24,6 +27,7 @@ use Rattle.ris_epoch.proofs.Splits.{parts-of, submits}
 use Rattle.ris_epoch.proofs.Stands.{Contains-map, Contains-mapped}
 use Rattle.ris_epoch.proofs.TailRuns.{IsTrace}
 use Rattle.ris_epoch.proofs.TurnEpochs.{turn-epoch}
+use Rattle.ris_epoch.proofs.TurnOrders.{epoch-in-order}
 use Rattle.ris_epoch.proofs.TurnVisits.{front-first, turn-visits}
 
 -- a list without length is empty
@@ -43,6 +47,7 @@ sealed-none ground records batch d rest h =
       merged = [];
       split = subst (λ (c : List Entry). IsSplit (is_candidate_behind ground records) batch h.wanting c rest) none h.split;
       merge = λ k. refl;
+      rises = AllPairs-nil (λ (d later : Decided). IsSealedBefore (stripe_of d.entry.parts) d.entry.session (stripe_of later.entry.parts) later.entry.session);
       ordered = h.ordered;
       each = λ r. (λ at. inl at, λ at. elim at [ inl here ↦ here | inr back ↦ absurd (Contains-none r back) ]);
       stands = subst (λ (rs : List Record). StandsFor d ground rs) (sym (ap (λ (rs : List Record). records ++ rs) records_of-none ∙ append-nil records)) h.stands;
@@ -121,6 +126,13 @@ module _ (ground : Ground) (records : List Record) (batch : List Request) (middl
         },
         trace-length ground batch tail (records ++ records_of s.merged) (records ++ new.records) e.epoch.tail h.own e.trace,
       )
+
+  -- and goes in order
+  pub turned-in-order : AreOrdered 0 batch → (epoch : IsEpoch ground records batch (records ++ new.records) new.replies) × IsInOrder batch epoch.cells epoch.order epoch.tail
+  unfolding account
+  turned-in-order ordered =
+      let e = turn-epoch ground records batch (records ++ new.records) new.replies h.own due.taken account in
+      (e.epoch, epoch-in-order ground records batch (records ++ new.records) new.replies h.own account ordered e s.rises s.ordered)
 
 -- who waits behind the seal is of the batch
 pub tail-known : (ground : Ground) (records : List Record) (batch : List Request) (d : DriverView) (tail : List Request) (s : HasSealed ground records batch d tail)

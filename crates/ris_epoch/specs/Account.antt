@@ -11,8 +11,6 @@ use Rattle.ris_base.specs.Records.{AreChanges, changed_forests, forests_at, line
 use Rattle.ris_base.specs.Requests.{RefusedPart, entered, refusal_of, refused_at}
 use Rattle.ris_base.specs.Safe.{is_candidate}
 use Rattle.ris_base.specs.declared.analyses.Spec.{Spec}
-use Rattle.ris_base.specs.declared.events.Verdict.{Verdict}
-use Rattle.ris_base.specs.declared.events.Verdict.TheVariants as verdict
 use Rattle.ris_base.specs.declared.graphs.PlainGraph.{PlainGraph}
 use Rattle.ris_base.specs.declared.lines.Entry.{Entry}
 use Rattle.ris_base.specs.declared.lines.Line.TheVariants as line
@@ -23,6 +21,8 @@ use Rattle.ris_base.specs.declared.replies.Outcome.TheVariants as outcome
 use Rattle.ris_base.specs.declared.replies.Refusal.TheVariants as refusal
 use Rattle.ris_base.specs.declared.requests.Request.{Request}
 use Rattle.ris_base.specs.declared.requests.Request.TheVariants as request
+use Rattle.ris_phase.specs.Cells
+use Rattle.ris_phase.specs.Cells.{IsOrder}
 
 -- Behind records
 
@@ -75,12 +75,8 @@ IsSplit test (r ∷ batch) wanting candidates others =
 -- The cells
 
 -- whether a decided candidate goes to the tail
-abbrev pub bounces : Verdict → Bool
-bounces verdict.Bounced = true
-bounces other = false
-
 abbrev pub is_bounced : Decided → Bool
-is_bounced d = bounces d.verdict
+is_bounced d = Cells.is_bounced d.verdict
 
 -- the log of a stripe among decisions
 abbrev pub is_logged : ℕ → Decided → Bool
@@ -111,7 +107,7 @@ bounced decisions = map (λ d. request.Submit d.entry) (filter is_bounced decisi
 
 -- an order keeps that of each stripe's log
 abbrev pub IsMerge : List Decided → List Decided → Type 0
-IsMerge decisions merged = (k : ℕ) → filter (λ d. stripe_of d.entry.parts == k) merged ≡ log_of k decisions
+IsMerge decisions merged = IsOrder (λ k. log_of k decisions) merged
 
 -- the records of merged decisions: the applied ones are entries that change no forest
 unfoldable pub records_of : List Decided → List Record

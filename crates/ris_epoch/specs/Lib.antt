@@ -6,4 +6,5 @@ pub mod Openings
 pub mod Ordering
 pub mod Renewing
 pub mod Sealing
+pub mod TurnOrder
 pub mod Turning

@@ -1,8 +1,8 @@
 -- What a driver has done of a turn.
 use Rattle.std.specs.Prelude.{◌≡◌, ◌↔◌, ℕ, ◌<◌, ◌≤◌, ◌⊎◌, List, [], ◌∷◌, ◌++◌, length, map, slice_index_or}
-use Rattle.std.specs.List.{All, Contains}
+use Rattle.std.specs.List.{All, AllPairs, Contains}
 use Rattle.ris_base.specs.Epoch.{Ground, Resolved}
-use Rattle.ris_base.specs.Machine.{Decided, session_by}
+use Rattle.ris_base.specs.Machine.{Decided, session_by, stripe_of}
 use Rattle.ris_base.specs.declared.lines.Entry.{Entry}
 use Rattle.ris_base.specs.declared.records.Record.{Record}
 use Rattle.ris_base.specs.declared.replies.Outcome.{Outcome}
@@ -14,6 +14,14 @@ use Rattle.ris_epoch.specs.Account.{IsHandled, IsMerge, IsSplit, IsTail, IsWithi
 use Rattle.ris_epoch.specs.Driving.{job_of, no_memory_for, of_stripe}
 use Rattle.ris_epoch.specs.DriverView.{DriverView, StandsFor}
 use Rattle.ris_epoch.specs.Ordering.{AreOrdered}
+use Rattle.ris_epoch.specs.TurnOrder.{IsSealedBefore}
+
+-- candidates, and decisions on them, stand in the order of their stripes, and those of one stripe in that of their sessions
+abbrev pub AreByStripes : List Entry → Type 0
+AreByStripes entries = AllPairs (λ e later. IsSealedBefore (stripe_of e.parts) e.session (stripe_of later.parts) later.session) entries
+
+abbrev pub AreSealed : List Decided → Type 0
+AreSealed decisions = AllPairs (λ d later. IsSealedBefore (stripe_of d.entry.parts) d.entry.session (stripe_of later.entry.parts) later.entry.session) decisions
 
 -- A batch is split: the candidates that got memory stand in the order of their stripes, each with its job and with room for its line;
 -- the others wait in the order of their sessions; and those that got none are told so
@@ -25,6 +33,7 @@ pub record HasBegun (ground : Ground) (records : List Record) (batch : List Requ
   pub ordered : AreOrdered 0 rest
   pub by_stripe : (k : ℕ) → of_stripe k order ≡ of_stripe k candidates
   pub many : length order ≡ length candidates
+  pub rises : AreByStripes order
   pub stands : StandsFor d ground records
   pub stripes : length d.jobs ≡ 64
   pub jobs : (m : ℕ) → m < 64 → slice_index_or d.jobs m [] ≡ map job_of (of_stripe m candidates)
@@ -53,6 +62,7 @@ pub record HasSealed (ground : Ground) (records : List Record) (batch : List Req
   pub merged : List Decided
   pub split : IsSplit (is_candidate_behind ground records) batch wanting candidates others
   pub merge : IsMerge (decisions_on ground records candidates) merged
+  pub rises : AreSealed merged
   pub ordered : AreOrdered 0 tail
   pub each : (r : Request) → Contains tail r ↔ (Contains others r ⊎ Contains (bounced (decisions_on ground records candidates)) r)
   pub stands : StandsFor d ground (records ++ records_of merged)

@@ -46,8 +46,8 @@ impl Batch {
         })
     }
 
-    /// One request more, at its session's place. `Err` exactly where a request of the same session is in it, with the
-    /// request; the batch is then as before. It takes no memory.
+    /// One request more, of a session below 64, at its session's place. `Err` exactly where a request of the same session is in it,
+    /// with the request; the batch is then as before. Linear in the requests; it takes no memory.
     pub fn add(&mut self, request: Request) -> Result<(), Request>
         requires { session_by request < 64 }
         ensures ok { OnOk result (self.new ≡ inserted_by session_by self.old request) }

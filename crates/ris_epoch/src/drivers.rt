@@ -80,9 +80,10 @@ impl<M: Meter> Driver<M> {
     ghost use Rattle.ris_graph.specs.Jobs.{no_jobs};
 
     /// A driver on the graph of this format that has the vertices below `vertices` and the triples of `base`, with the forests of
-    /// 1 to 4 analyses and no lines, for 1 to 64 sessions. The root of an analysis of components is 0.
+    /// 1 to 4 analyses and no lines, for 1 to 64 sessions. There are at most 4,194,304 vertices, the ends of a triple are below
+    /// `vertices`, and its weight is within the limit of the format. The root of an analysis of components is 0.
     ///
-    /// The meter ticks at most so often as the reach of the start says, also where `NoMemory` comes. It takes time of the
+    /// The meter ticks at most as often as the reach of the start says, also where `NoMemory` comes. It takes time of the
     /// triples times a logarithm for each analysis, and goes once over the vertex numbers below the limit.
     pub fn start(
         alloc: Global,
@@ -125,14 +126,15 @@ impl<M: Meter> Driver<M> {
         })
     }
 
-    /// The number of sessions and the forests of place 0.
+    /// The number of sessions and the forests of place 0. Constant time.
     pub fn opening(&self) -> &Start
         ensures { result.now ≡ self.now.opening }
     {
         &self.opening
     }
 
-    /// The next record of the last turn, in order, which is then gone. `None` exactly where all were given.
+    /// The next record of the last turn, in order, which is then gone. `None` exactly where all were given. Constant time; it
+    /// takes no memory.
     pub fn fresh(&mut self) -> Option<Record>
         ensures item { result ≡ slice_get self.old.records 0 }
         ensures rest { self.new.records ≡ drop 1 self.old.records }
@@ -147,7 +149,7 @@ impl<M: Meter> Driver<M> {
     }
 
     /// The next reply of the last turn, in order, which is then gone: the session, the number of its request, and what became of
-    /// it. `None` exactly where all were given. Every record was given before.
+    /// it. `None` exactly where all were given. Every record was given before. Constant time; it takes no memory.
     pub fn reply(&mut self) -> Option<(u32, u64, Outcome)>
         requires { self.old.records ≡ [] }
         ensures item { option_map resolved_of result ≡ slice_get self.old.replies 0 }
@@ -156,14 +158,14 @@ impl<M: Meter> Driver<M> {
         self.replies.pop_front()
     }
 
-    /// The number of entries.
+    /// The number of entries. Constant time.
     pub fn front(&self) -> u64
         ensures { result ≡ front self.now.journal.lines }
     {
         self.journal.front()
     }
 
-    /// The serial list. It takes no memory.
+    /// The serial list. Constant time; it takes no memory.
     pub fn finish(self) -> Final
         ensures { result.lines ≡ self.journal.lines }
     {

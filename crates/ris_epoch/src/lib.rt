@@ -6,10 +6,14 @@ mod batches;
 mod begins;
 mod candidates;
 mod drivers;
+#[cfg(test)]
+mod forest_tests;
 mod judging;
 mod laws;
 mod openings;
 mod ordered;
+#[cfg(test)]
+mod phase_tests;
 mod phases;
 mod renewals;
 mod seals;
@@ -20,5 +24,5 @@ mod turns;
 
 pub use batches::Batch;
 pub use drivers::{Driver, Final};
-pub use laws::{epoch_law, right_law};
+pub use laws::{right_law, turn_law};
 pub use turns::Turn;

@@ -5,10 +5,10 @@ ghost use Rattle.ris_base.specs.Limits.{vertex_limit};
 ghost use Rattle.ris_base.specs.Machine.{session_by};
 
 use crate::{Batch, Driver, Turn};
-use ris_base::Update::{AddE, AddV, DelE};
+use ris_base::Update::{AddE, AddV, DelE, DelV};
 use ris_base::{
-    Entry, Format, FreeGate, Gate, Kind, Meter, NoMemory, Outcome, Parts, PartsBuilder, Refusal,
-    Request, Spec, Specs, Triple, Triples, Update,
+    Entry, Format, FreeGate, Gate, Kind, Line, Meter, NoMemory, Outcome, Parts, PartsBuilder,
+    Refusal, Request, Spec, Specs, Triple, Triples, Update,
 };
 use ris_phase::HoldGate;
 use std::alloc::Global;
@@ -50,7 +50,7 @@ fn triples_of(alloc: Global, vertices: u32, base: &[Triple]) -> Result<Triples, 
 }
 
 /// The analysis of depths from 0.
-fn depths(alloc: Global) -> Result<Specs, NoMemory>
+pub(crate) fn depths(alloc: Global) -> Result<Specs, NoMemory>
     ensures one { IfOk result (λ specs. length specs ≡ 1) }
     ensures plain { IfOk result ArePlainSpecs }
 {
@@ -63,7 +63,7 @@ fn depths(alloc: Global) -> Result<Specs, NoMemory>
 }
 
 /// A driver of depths for so many sessions.
-fn driver_on(
+pub(crate) fn driver_on(
     alloc: Global,
     vertices: u32,
     base: &[Triple],
@@ -88,11 +88,13 @@ fn driver_on(
     Ok(driver)
 }
 
-/// What a session asks for: an update, or a release.
+/// What a session asks for: an update, two of them together, a release, or to leave.
 #[derive(Clone, Copy)]
-enum Asked {
+pub(crate) enum Asked {
     Change(Update),
+    Pair(Update, Update),
     Release(u64),
+    Leave,
 }
 
 /// The request of a session for its command number `seq`.
@@ -101,7 +103,15 @@ fn request_of(alloc: Global, session: u32, seq: u64, asked: Asked) -> Result<Req
 {
     match asked {
         Asked::Change(update) => {
-            let parts = one_part(alloc, update)?;
+            let parts = parts_of(alloc, &[update])?;
+            Ok(Request::Submit(Entry {
+                session,
+                seq,
+                parts,
+            }))
+        }
+        Asked::Pair(first, second) => {
+            let parts = parts_of(alloc, &[first, second])?;
             Ok(Request::Submit(Entry {
                 session,
                 seq,
@@ -109,14 +119,17 @@ fn request_of(alloc: Global, session: u32, seq: u64, asked: Asked) -> Result<Req
             }))
         }
         Asked::Release(upto) => Ok(Request::Release { session, seq, upto }),
+        Asked::Leave => Ok(Request::Leave { session, seq }),
     }
 }
 
-/// The parts of a request of one update.
-fn one_part(alloc: Global, update: Update) -> Result<Parts, Fail> {
+/// The parts of a request of these updates.
+fn parts_of(alloc: Global, updates: &[Update]) -> Result<Parts, Fail> {
     let mut builder = PartsBuilder::new(alloc)?;
-    if builder.push(update).is_err() {
-        return Err(Fail::from("no room for a part"));
+    for update in updates {
+        if builder.push(*update).is_err() {
+            return Err(Fail::from("no room for a part"));
+        }
     }
     match builder.close() {
         Some(parts) => Ok(parts),
@@ -164,7 +177,7 @@ fn drain_replies(driver: &mut Driver<Visits>)
 }
 
 /// One turn that takes what sessions ask for.
-fn turn_of<R: AllocGlobal + Threads + Sync, G: Gate>(
+pub(crate) fn turn_of<R: AllocGlobal + Threads + Sync, G: Gate>(
     rt: &R,
     driver: &mut Driver<Visits>,
     asked: &[(u32, u64, Asked)],
@@ -273,7 +286,7 @@ fn the_second_deletion_of_a_tree_edge_bounces(rt: HostRuntime) -> Result<(), Fai
         let mut trial = Trial::new(rt.alloc(), &[edge(0), edge(0)], workers)?;
         let asked = [(0, 0, DELETE), (1, 0, DELETE)];
         trial.expect(&rt, &asked, &[placed(0, 0, 1), placed(1, 0, 2)], (2, 2, 1))?;
-        trial.expect_visits(&rt, 2);
+        trial.expect_visits(&rt, 0);
     }
     Ok(())
 }
@@ -287,7 +300,7 @@ fn a_refused_candidate_makes_no_place(rt: HostRuntime) -> Result<(), Fail> {
             (1, 0, Asked::Change(AddE { u: 0, v: 1, w: 3 })),
         ];
         trial.expect(&rt, &asked, &[no_edge(0, 0, 0), placed(1, 0, 1)], (2, 1, 0))?;
-        trial.expect_visits(&rt, 2);
+        trial.expect_visits(&rt, 0);
     }
     Ok(())
 }
@@ -328,23 +341,126 @@ const fn marked(session: u32, seq: u64, upto: u64) -> (u32, u64, Outcome) {
 }
 
 #[test]
-fn many_sessions_delete_the_copies_of_one_edge(rt: HostRuntime) -> Result<(), Fail> {
-    let mut asked = Vec::new(rt.alloc());
-    let mut replies = Vec::new(rt.alloc());
-    for s in 0..64 {
-        asked.push((s, 0, DELETE))?;
-        replies.push(if s < 32 {
-            placed(s, 0, u64::from(s) + 1)
-        } else {
-            no_edge(s, 0, 32)
-        })?;
-    }
+fn candidates_are_sealed_stripe_after_stripe(rt: HostRuntime) -> Result<(), Fail> {
     for workers in WORKERS {
-        let mut trial = Trial::new(rt.alloc(), &[edge(0); 32], workers)?;
-        trial.expect(&rt, &asked, &replies, (64, 32, 33))?;
-        trial.expect_visits(&rt, 2);
+        let mut trial = Trial::new(rt.alloc(), &[], workers)?;
+        let asked = [
+            (0, 0, Asked::Change(AddV { x: 1 })),
+            (1, 0, Asked::Change(AddV { x: 0 })),
+            (2, 0, Asked::Change(DelE { u: 1, v: 0, w: 0 })),
+        ];
+        let replies = [placed(1, 0, 1), placed(0, 0, 2), no_edge(2, 0, 2)];
+        trial.expect(&rt, &asked, &replies, (3, 2, 0))?;
+        trial.expect_visits(&rt, 0);
     }
     Ok(())
+}
+
+/// What 64 sessions are told that delete so many copies of one edge.
+fn deletions(alloc: Global, copies: u32) -> Result<Vec<(u32, u64, Outcome)>, Fail> {
+    let mut replies = Vec::new(alloc);
+    for s in 0..64 {
+        replies.push(if s < copies {
+            placed(s, 0, u64::from(s) + 1)
+        } else {
+            no_edge(s, 0, u64::from(copies))
+        })?;
+    }
+    Ok(replies)
+}
+
+/// A driver on so many copies of one edge.
+fn trial_on_copies(alloc: Global, copies: u32, workers: u32) -> Result<Trial, Fail> {
+    let mut base = Vec::new(alloc);
+    for _copy in 0..copies {
+        base.push(edge(1))?;
+    }
+    Trial::new(alloc, &base, workers)
+}
+
+#[test]
+fn all_sessions_delete_the_copies_of_one_edge(rt: HostRuntime) -> Result<(), Fail> {
+    let mut asked = Vec::new(rt.alloc());
+    for s in 0..64 {
+        asked.push((s, 0, Asked::Change(DelE { u: 0, v: 1, w: 1 })))?;
+    }
+    for workers in WORKERS {
+        let mut trial = trial_on_copies(rt.alloc(), 64, workers)?;
+        let replies = deletions(rt.alloc(), 64)?;
+        trial.expect(&rt, &asked, &replies, (64, 64, 1))?;
+        let mut trial = trial_on_copies(rt.alloc(), 63, workers)?;
+        let replies = deletions(rt.alloc(), 63)?;
+        trial.expect(&rt, &asked, &replies, (64, 63, 2))?;
+    }
+    Ok(())
+}
+
+#[test]
+fn a_leave_ends_a_session(rt: HostRuntime) -> Result<(), Fail> {
+    let mut trial = Trial::new(rt.alloc(), &[], 1)?;
+    trial.expect(
+        &rt,
+        &[(0, 0, Asked::Leave)],
+        &[(0, 0, Outcome::Left { front: 0 })],
+        (1, 0, 1),
+    )
+}
+
+#[test]
+fn all_kinds_of_requests_are_handled_in_the_tail(rt: HostRuntime) -> Result<(), Fail> {
+    for workers in WORKERS {
+        let mut trial = Trial::new(rt.alloc(), &[edge(1)], workers)?;
+        let add = AddE { u: 1, v: 0, w: 1 };
+        let asked = [
+            (0, 0, Asked::Pair(add, AddV { x: 2 })),
+            (1, 0, Asked::Release(9)),
+            (2, 0, Asked::Change(DelV { x: 0 })),
+            (3, 0, Asked::Pair(add, add)),
+            (4, 0, Asked::Pair(AddV { x: 0 }, add)),
+            (5, 0, Asked::Release(2)),
+            (6, 0, Asked::Leave),
+        ];
+        let missing = Refusal::NoVertex {
+            front: 2,
+            part: 1,
+            id: 0,
+        };
+        let replies = [
+            placed(0, 0, 1),
+            (1, 0, Outcome::NotYet { front: 1 }),
+            placed(2, 0, 2),
+            (3, 0, Outcome::Refused(missing)),
+            placed(4, 0, 3),
+            (5, 0, Outcome::Marked { front: 3, upto: 2 }),
+            (6, 0, Outcome::Left { front: 3 }),
+        ];
+        trial.expect(&rt, &asked, &replies, (7, 3, 7))?;
+        let mut lines = trial.driver.finish().lines;
+        for line in [
+            ("entry", 0, 2),
+            ("entry", 2, 1),
+            ("entry", 4, 2),
+            ("mark", 5, 2),
+            ("leave", 6, 0),
+        ] {
+            assert!(rt;
+                lines
+                    .take_first()
+                    .is_some_and(|found| line_of(&found) == line)
+            );
+        }
+        assert!(rt; lines.is_empty());
+    }
+    Ok(())
+}
+
+/// The kind of a line, its session, and the number of an entry's parts or the released place.
+fn line_of(line: &Line) -> (&'static str, u32, u64) {
+    match line {
+        Line::Entry(entry) => ("entry", entry.session, entry.parts.len()),
+        Line::Mark { session, upto, .. } => ("mark", *session, *upto),
+        Line::Leave { session, .. } => ("leave", *session, 0),
+    }
 }
 
 #[test]

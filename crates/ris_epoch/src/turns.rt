@@ -7,6 +7,7 @@ ghost use Rattle.ris_base.specs.declared.records.Record.{Record};
 ghost use Rattle.ris_base.specs.declared.requests.Request.{Request};
 ghost use Rattle.ris_epoch.specs.Account.{IsBatch};
 ghost use Rattle.ris_epoch.specs.DriverView.{StandsFor};
+ghost use Rattle.ris_epoch.specs.TurnOrder.{IsInOrder};
 ghost use Rattle.ris_epoch.specs.Turning.{HasBegun, HasSealed, IsBegun};
 ghost use Rattle.ris_graph.specs.Ticks.{IsRise};
 
@@ -29,13 +30,17 @@ pub struct Turn {
 
 impl<M: Meter> Driver<M> {
     /// One turn: it takes all requests of a batch, and gives each one reply. First the candidates are decided by 1 to 64 workers,
-    /// those that are updates of one part which change no value; the applied ones become entries, stripe after stripe. Then all
-    /// others are handled in the order of their sessions. No record and no reply of an earlier turn is left; each session of the
+    /// those that are updates of one part which change no value, in each stripe in the order of their sessions; the applied ones
+    /// become entries, stripe after stripe. Then all others are handled in the order of their sessions. No record and no reply of an earlier turn is left; each session of the
     /// batch exists; and there are at most 4,294,967,295 entries in the end.
     ///
     /// What `fresh` gives next are the records of the turn, and what `reply` gives then is its replies. `NoMemory` may be the reply
     /// to any request, for which nothing then changed. The meter ticks at most as often as the reaches of the turn's entries, and
-    /// of the requests of the tail that got no memory, say together. A turn of one candidate goes over no table of vertices.
+    /// of the requests of the tail that got no memory, say together.
+    ///
+    /// Each job of the phase enters the gate once, and a turn without candidates has no phase. A candidate costs a binary search in
+    /// its rows and the moves of an insert or a removal, a release or a leave constant time, and a change in the tail what its net
+    /// and its repair cost. A turn of one candidate goes over no table of vertices.
     pub fn turn<R: Threads + Sync, G: Gate>(
         &mut self,
         rt: &R,
@@ -56,6 +61,9 @@ impl<M: Meter> Driver<M> {
             × ((n : ℕ) → IsTurnReach base records batch.old [] (records ++ self.new.records) self.new.replies epoch n
             → IsRise (M.ticks meter.old) (M.ticks meter.new) n)
             × (result.tail ≡ length epoch.tail) }
+        ensures order { (base : Ground) (records : List Record) → StandsFor self.old base records
+            → (epoch : IsEpoch base records batch.old (records ++ self.new.records) self.new.replies)
+            × IsInOrder batch.old epoch.cells epoch.order epoch.tail }
         ensures empty { batch.new ≡ [] }
         ensures opening { self.new.opening ≡ self.old.opening }
         ensures took { result.took ≡ length batch.old }

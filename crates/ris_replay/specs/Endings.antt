@@ -1,5 +1,5 @@
 -- How a run ends, before its line is written.
-use Rattle.std.specs.Prelude.{◌≡◌, ℕ, ◌+◌, ◌<◌, IsTrue, List, length, Err}
+use Rattle.std.specs.Prelude.{◌≡◌, ℕ, ◌+◌, ◌<◌, false, IsTrue, List, length, Err}
 use Rattle.ris_base.specs.Causes.{Rose}
 use Rattle.ris_base.specs.Limits.{script_limit}
 use Rattle.ris_base.specs.Script.{Bytes, Fault}
@@ -39,6 +39,10 @@ IsLong before after = script_limit + length after < length before
 abbrev pub ReadsInput : Program → List Bytes → Type 0
 ReadsInput program words = OnJob program words (λ job. IsTrue (reads_input job))
 
+-- where the words say a job that doesn't read the input, that is as before
+abbrev pub LeavesAlone : Program → List Bytes → Stream → Type 0
+LeavesAlone program words input = (job : Job) → program.Takes words job → reads_input job ≡ false → IsUntouched input
+
 -- what holds where a run ends so, with so many visits
 abbrev pub Ends : Program → List Bytes → Stream → Stream → ℕ → Ending → Type 0
 Ends program words input output visits ending.Usage =
@@ -54,4 +58,4 @@ Ends program words input output visits (ending.Script number why) =
 Ends program words input output visits ending.WriteFault =
     IsCutShort program words input output visits × HasNoFault input × Rose output.faults_before output.faults_after
 Ends program words input output visits ending.Done = IsAnswered program words input output visits × HasNoFault input × HasNoFault output
-Ends program words input output visits ending.NoMemory = HasNoFault input × IsUntouched output
+Ends program words input output visits ending.NoMemory = HasNoFault input × IsUntouched output × LeavesAlone program words input

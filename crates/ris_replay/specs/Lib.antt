@@ -1,6 +1,7 @@
 pub mod Endings
+pub mod Jobs
 pub mod Playing
 pub mod Program
 pub mod Reports
-pub mod Standing
+pub mod RoundsView
 pub mod Visits

@@ -1,6 +1,5 @@
--- What a script must be to be replayed so far, and what its replay gives.
-use Rattle.std.specs.Prelude.{ℕ, IsTrue, List}
-use Rattle.std.specs.List.{All}
+-- What the replay of a script gives.
+use Rattle.std.specs.Prelude.{IsTrue, List}
 use Rattle.ris_base.specs.Legal.{IsLegal}
 use Rattle.ris_base.specs.Lists.{EachPair}
 use Rattle.ris_base.specs.Replies.{can_have}
@@ -9,11 +8,6 @@ use Rattle.ris_base.specs.declared.analyses.Spec.{Spec}
 use Rattle.ris_base.specs.declared.lines.Line.{Line}
 use Rattle.ris_base.specs.declared.replies.LogLine.{LogLine}
 use Rattle.ris_base.specs.declared.scripts.Script.{Script}
-use Rattle.ris_replay.specs.Standing.{IsTaken}
-
--- each command is one that is answered so far
-abbrev pub AreTaken : ℕ → Script → Type 0
-AreTaken analyses script = All (All (IsTaken analyses)) script.commands
 
 -- each command has a reply of its kind, and the replies and the serial list are legal
 pub record AreAnswered (script : Script) (specs : List Spec) (logs : List (List LogLine)) (lines : List Line) : Type 0 where

@@ -1,26 +1,30 @@
--- How many visits a replay may make today.
-use Rattle.std.specs.Prelude.{◌≡◌, ℕ, ◌+◌, ◌^◌, ◌<◌, ◌≤◌, false, List, [], ◌∷◌}
-use Rattle.std.specs.List.{list_any}
-use Rattle.ris_base.specs.Falling.{dropped_degrees}
+-- How many visits a replay may make.
+use Rattle.std.specs.Prelude.{◌≡◌, ℕ, ◌+◌, ◌^◌, ◌<◌, ◌≤◌, Bool, true, false, List}
+use Rattle.std.specs.List.{list_all, list_any}
+use Rattle.ris_base.specs.Falling.{start_reach}
 use Rattle.ris_base.specs.Replies.{wants_memory}
-use Rattle.ris_base.specs.Requests.{entered}
-use Rattle.ris_base.specs.declared.graphs.PlainGraph.{PlainGraph}
+use Rattle.ris_base.specs.Script.{opening_of}
+use Rattle.ris_base.specs.Visits.{IsReachOfGrowth, is_growth, only_adds}
+use Rattle.ris_base.specs.declared.analyses.Spec.{Spec}
 use Rattle.ris_base.specs.declared.lines.Line.{Line}
 use Rattle.ris_base.specs.declared.lines.Line.TheVariants as line
 use Rattle.ris_base.specs.declared.replies.LogLine.{LogLine}
-
--- the nets' part of lines behind a graph: for each part of an entry that drops a vertex, both its degrees in the graph before the
--- entry
-unfoldable pub nets_part : PlainGraph → List Line → ℕ
-nets_part g [] = 0
-nets_part g (line.Entry e ∷ lines) = dropped_degrees g e.parts + nets_part (entered g e.parts) lines
-nets_part g (line.Mark session seq upto ∷ lines) = nets_part g lines
-nets_part g (line.Leave session seq ∷ lines) = nets_part g lines
-
--- where none of these replies wants memory, a count rose from the first number to now by at most the nets' part of these lines
-abbrev pub AreCounted : PlainGraph → List LogLine → List Line → ℕ → ℕ → Type 0
-AreCounted g log lines first now = list_any wants_memory log ≡ false → now ≤ first + nets_part g lines
+use Rattle.ris_base.specs.declared.scripts.Script.{Script}
 
 -- a count of 64 bits doesn't fall
 abbrev pub Rises : ℕ → ℕ → Type 0
 Rises before now = before < 2 ^ 64 → (before ≤ now) × (now < 2 ^ 64)
+
+-- whether a line takes nothing away
+abbrev pub grows : Line → Bool
+grows (line.Entry e) = list_all only_adds e.parts
+grows (line.Mark session seq upto) = true
+grows (line.Leave session seq) = true
+
+-- where no command of a script takes anything away and none of these replies wants memory, the visits are at most the reach of the
+-- start and of the entries of these lines
+abbrev pub AreWithinReach : Script → List Spec → List (List LogLine) → List Line → ℕ → Type 0
+AreWithinReach script specs logs lines visits =
+    list_all (list_all is_growth) script.commands ≡ true → list_any (list_any wants_memory) logs ≡ false
+    → (n : ℕ) → IsReachOfGrowth (opening_of script) specs lines n
+    → visits ≤ start_reach (opening_of script) specs + n

@@ -1,52 +1,19 @@
-ghost use Rattle.std.specs.Prelude.{◌≡◌, ◌≢◌, ◌↔◌, [], ◌∷◌, List, Err, IfOk, codes, length, slice_get, Some, ◌<◌, MatchOption};
-ghost use Rattle.ris_replay.specs.Program.{SaysAnalyses};
+ghost use Rattle.std.specs.Prelude.{◌≡◌, Err, IfOk};
+ghost use Rattle.ris_base.specs.declared.jobs.Job.{Job as Said};
+ghost use Rattle.ris_replay.specs.Program.{Takes};
 
-use ris_base::{Specs, Words};
-use ris_words::{WordsError, read_analyses};
+use ris_base::{Job, Words};
+use ris_words::{WordsError, read_words};
 use std::alloc::Global;
 
-/// The analyses of the job that words say: `replay --analyses` and a list of them. `Usage` exactly for other words.
-pub fn job_analyses(alloc: Global, words: &Words) -> Result<Specs, WordsError>
-    ensures ok { IfOk result (λ specs. SaysAnalyses words.now specs) }
-    ensures usage { (result ≡ Err WordsError.Usage) ↔ ((specs : List _) → ¬ SaysAnalyses words.now specs) }
+/// The job that words say, which is done without threads of its own. `Usage` where they say no such job, unless memory was
+/// wanted.
+pub(crate) fn inline_job(alloc: Global, words: &Words) -> Result<Job, WordsError>
+    ensures ok { IfOk result (λ job. Takes words.now job) }
+    ensures usage { (result ≡ Err WordsError.Usage) → (job : Said) → ¬ Takes words.now job }
 {
-    match analysis_list(words) {
-        Some(list) => read_analyses(alloc, list),
-        None => Err(WordsError::Usage),
-    }
-}
-
-/// The list of analyses, where the words are `replay --analyses` and one word more.
-fn analysis_list(words: &Words) -> Option<&str>
-    ensures { MatchOption result ((list : _) → words.now ≢ codes "replay" ∷ codes "--analyses" ∷ list ∷ [])
-        (λ list. words.now ≡ codes "replay" ∷ codes "--analyses" ∷ list.now ∷ []) }
-{
-    let (command, option, list) = three_words(words)?;
-    if command == "replay" && option == "--analyses" {
-        Some(list)
-    } else {
-        None
-    }
-}
-
-/// The words, where there are three.
-fn three_words(words: &Words) -> Option<(&str, &str, &str)>
-    ensures { MatchOption result (length words.now ≢ 3) (λ three. words.now ≡ three.0.now ∷ three.1.now ∷ three.2.now ∷ []) }
-{
-    if words.len() == 3 {
-        Some((word(words, 0), word(words, 1), word(words, 2)))
-    } else {
-        None
-    }
-}
-
-/// The word number `k`.
-fn word(words: &Words, k: u64) -> &str
-    requires { k < length words.now }
-    ensures { slice_get words.now k ≡ Some result.now }
-{
-    match words.get(k) {
-        Some(word) => word,
-        None => unreachable!(),
+    match read_words(alloc, words)? {
+        Job::Replay { threads: true, .. } => Err(WordsError::Usage),
+        job => Ok(job),
     }
 }

@@ -3,16 +3,19 @@
 
 mod endings;
 mod jobs;
+mod lineups;
+mod locals;
 #[cfg(test)]
 mod net_tests;
-mod places;
-mod plays;
 mod reports;
+mod rounds;
+#[cfg(test)]
+mod rows;
 mod runs;
-mod standings;
 #[cfg(test)]
 mod tests;
 
+pub use locals::{Played, replay_local};
 pub use reports::put_fault;
 pub use ris_base::Status;
 pub use runs::{run, run_inline};

@@ -1,6 +1,9 @@
+use crate::rows::{Row, row_of_limits, rows};
 use crate::run_inline;
-use ris_base::{Bytes, FreeGate, Meter, Status, Words};
+use ris_base::{Bytes, FreeGate, Gate, Meter, Status, Words};
 use ris_io::{Calls, MemSink, MemSource};
+use ris_phase::HoldGate;
+use ris_words::make_script;
 use std::alloc::Global;
 use std::process::Abort;
 use std::test::Fail;
@@ -37,12 +40,12 @@ struct Given<'a> {
     report_fails: u64,
 }
 
-/// What is wanted of it.
-#[derive(Clone, Copy)]
-struct Wanted<'a> {
+/// What a run over memory gave.
+#[derive(Drop)]
+struct Ran {
     status: Status,
-    out: &'a str,
-    faults: &'a str,
+    out: MemSink,
+    faults: MemSink,
     visits: u64,
 }
 
@@ -57,12 +60,17 @@ fn calls(alloc: Global, number: u64) -> Result<Calls, Fail> {
 /// The visits that the meter counted before the run.
 const EARLIER: u64 = 5;
 
-/// Runs what is given, and compares it with what is wanted.
-fn expect<R: Threads + Sync + AllocGlobal + Abort>(
+/// Runs what is given, with a gate that holds nobody.
+fn run_over<R: Threads + Sync + AllocGlobal>(rt: &R, given: Given) -> Result<Ran, Fail> {
+    run_through(rt, given, &FreeGate)
+}
+
+/// Runs what is given, with this gate.
+fn run_through<R: Threads + Sync + AllocGlobal, G: Gate>(
     rt: &R,
     given: Given,
-    wanted: Wanted,
-) -> Result<(), Fail> {
+    gate: &G,
+) -> Result<Ran, Fail> {
     let mut words = Words::new(rt.alloc());
     for word in given.words.split_whitespace() {
         words.push(word)?;
@@ -88,114 +96,105 @@ fn expect<R: Threads + Sync + AllocGlobal + Abort>(
         &mut out,
         &mut faults,
         &mut meter,
-        &FreeGate,
+        gate,
     );
-    assert_eq!(rt; status, wanted.status);
-    assert_eq!(rt; out.held(), wanted.out.as_bytes());
-    assert_eq!(rt; faults.held(), wanted.faults.as_bytes());
-    assert_eq!(rt; meter.total().saturating_sub(EARLIER), wanted.visits);
+    Ok(Ran {
+        status,
+        out,
+        faults,
+        visits: meter.total().saturating_sub(EARLIER),
+    })
+}
+
+/// Runs a row, and compares what it gives. Its last number is the rise of the meter.
+fn expect_row<R: Threads + Sync + AllocGlobal + Abort>(rt: &R, row: &Row) -> Result<(), Fail> {
+    let ran = run_over(rt, over(row.words, row.script.as_bytes()))?;
+    let text = format!(in rt.alloc(); "{}{}\n", row.text, ran.visits)?;
+    assert_eq!(rt; ran.status, Status::Ok, "at {}", row.script);
+    assert_eq!(rt; ran.out.held(), text.as_bytes(), "at {}", row.script);
+    assert_eq!(rt; ran.faults.held(), b"".as_slice());
+    assert!(rt; ran.visits <= row.most, "at {}", row.script);
     Ok(())
 }
 
-const WORDS: &str = "replay --analyses bfs:0,sswp:0,wcc";
-
-const FIRST: &[u8] = b"risgraph,1,3,1\n0,adde,0,1,5\n0,value,last,0,1\n";
-
-const FIRST_TEXT: &str = "0,0,place,1\n0,1,value,1,1,1\njournal,entry,1,0,0\nsummary,1,0,0,0\n";
-
-const CHANGING: &[u8] =
-    b"risgraph,2,4,1\nbase,0,1,7\n0,begin\n0,adde,1,2,3\n0,setw,0,1,7,9\n0,commit\n0,value,last,1,2\n0,value,@0,0,2\n0,delv,1\n0,dele,0,1,9\n0,adde,0,9,1\n0,value,last,2,1\n0,value,@3,0,0\n0,value,last,0,3\n";
-
-const CHANGING_TEXT: &str =
-    "0,0,place,1\n0,1,value,1,1,3\n0,2,value,1,0,unreached\n0,3,place,2\n0,4,novertex,2,1,1\n0,5,novertex,2,1,9\n0,6,value,2,2,absent\n0,7,notyet,2\n0,8,value,2,2,unreached\njournal,entry,1,0,0\njournal,entry,2,0,3\nsummary,2,0,3,2\n";
-
-const DROPPING: &[u8] =
-    b"risgraph,1,3,1\nbase,0,1,1\nbase,1,2,1\n0,value,@0,0,2\n0,delv,1\n0,value,last,0,2\n0,adde,0,1,1\n0,addv,1\n0,value,@3,0,1\n0,dele,0,2,4\n";
-
-const DROPPING_TEXT: &str =
-    "0,0,value,0,0,2\n0,1,place,1\n0,2,value,1,1,unreached\n0,3,novertex,1,1,1\n0,4,place,2\n0,5,notyet,2\n0,6,noedge,2,1\njournal,entry,1,0,1\njournal,entry,2,0,4\nsummary,2,0,3,2\n";
-
-const TWO_PARTS: &[u8] =
-    b"risgraph,1,3,1\n0,begin\n0,adde,0,1,1\n0,adde,1,2,1\n0,commit\n0,begin\n0,dele,0,1,1\n0,adde,0,9,1\n0,commit\n0,value,last,0,2\n";
-
-const TWO_PARTS_TEXT: &str =
-    "0,0,place,1\n0,1,novertex,1,2,9\n0,2,value,1,1,2\njournal,entry,1,0,0\nsummary,1,0,1,0\n";
-
-const WEIGHTS: &[u8] =
-    b"risgraph,2,3,1\nbase,0,1,4\nbase,1,2,4\n0,setw,0,1,4,9\n0,value,last,0,2\n0,value,last,1,2\n0,setw,0,1,4,5\n0,setw,0,1,9,68719476736\n0,adde,0,2,68719476735\n0,value,last,1,2\n0,value,last,1,0\n";
-
-const WEIGHTS_TEXT: &str =
-    "0,0,place,1\n0,1,value,1,1,13\n0,2,value,1,1,4\n0,3,noedge,1,1\n0,4,limit,1,1,68719476736\n0,5,place,2\n0,6,value,2,2,68719476735\n0,7,value,2,2,68719476736\njournal,entry,1,0,0\njournal,entry,2,0,5\nsummary,2,0,2,0\n";
-
-fn done(out: &'static str, visits: u64) -> Wanted<'static> {
-    Wanted {
-        status: Status::Ok,
-        out,
-        faults: "",
-        visits,
-    }
+/// Runs what ends by another status than `Ok`, and compares what it gives.
+fn expect_status<R: Threads + Sync + AllocGlobal + Abort>(
+    rt: &R,
+    given: Given,
+    status: Status,
+    out: &str,
+    line: &str,
+) -> Result<(), Fail> {
+    let ran = run_over(rt, given)?;
+    assert_eq!(rt; ran.status, status, "at {}", given.words);
+    assert_eq!(rt; ran.out.held(), out.as_bytes());
+    assert_eq!(rt; ran.faults.held(), line.as_bytes());
+    assert_eq!(rt; ran.visits, 0);
+    Ok(())
 }
-
-fn refused(status: Status, faults: &'static str) -> Wanted<'static> {
-    Wanted {
-        status,
-        out: "",
-        faults,
-        visits: 0,
-    }
-}
-
-#[test]
-fn scripts_give_their_transcripts(rt: HostRuntime) -> Result<(), Fail> {
-    expect(&rt, over(WORDS, FIRST), done(FIRST_TEXT, 0))?;
-    expect(
-        &rt,
-        over(WORDS, b"risgraph,1,3,1"),
-        done("summary,0,0,0,0\n", 0),
-    )?;
-    expect(&rt, over(WORDS, CHANGING), done(CHANGING_TEXT, 2))?;
-    let depth = "replay --analyses bfs:0";
-    expect(&rt, over(depth, DROPPING), done(DROPPING_TEXT, 2))?;
-    expect(&rt, over(depth, TWO_PARTS), done(TWO_PARTS_TEXT, 0))?;
-    let weighted = "replay --analyses sssp:0,sswp:0";
-    expect(&rt, over(weighted, WEIGHTS), done(WEIGHTS_TEXT, 0))
-}
-
-const ABSENT: &[u8] =
-    b"risgraph,1,3,1\n0,value,@0,0,0\n0,value,@0,0,1\n0,value,@0,0,9\n0,value,@0,0,4194304\n";
-
-const ABSENT_TEXT: &str =
-    "0,0,value,0,0,0\n0,1,value,0,0,unreached\n0,2,value,0,0,absent\n0,3,value,0,0,absent\nsummary,0,0,0,0\n";
-
-const COPIES: &[u8] =
-    b"risgraph,1,2,1\n0,adde,0,1,7\n0,adde,0,1,7\n0,dele,0,1,7\n0,dele,0,1,7\n0,dele,0,1,7\n0,value,@3,0,1\n0,value,@4,0,1\n";
-
-const COPIES_TEXT: &str =
-    "0,0,place,1\n0,1,place,2\n0,2,place,3\n0,3,place,4\n0,4,noedge,4,1\n0,5,value,4,3,7\n0,6,value,4,4,unreached\njournal,entry,1,0,0\njournal,entry,2,0,1\njournal,entry,3,0,2\njournal,entry,4,0,3\nsummary,4,0,1,0\n";
-
-const CYCLE: &[u8] =
-    b"risgraph,1,3,1\nbase,0,1,0\nbase,1,2,0\nbase,2,1,0\n0,dele,0,1,0\n0,value,last,0,1\n0,value,last,0,2\n";
-
-const CYCLE_TEXT: &str =
-    "0,0,place,1\n0,1,value,1,1,unreached\n0,2,value,1,1,unreached\njournal,entry,1,0,0\nsummary,1,0,0,0\n";
-
-const LIMITS: &[u8] =
-    b"risgraph,1,2,1\n0,adde,0,1,4294967295\n0,adde,0,1,4294967296\n0,addv,4194303\n0,addv,4194304\n0,value,last,0,1\n0,value,last,0,4194303\n";
-
-const LIMITS_TEXT: &str =
-    "0,0,place,1\n0,1,limit,1,1,4294967296\n0,2,place,2\n0,3,limit,2,1,4194304\n0,4,value,2,2,4294967295\n0,5,value,2,2,unreached\njournal,entry,1,0,0\njournal,entry,2,0,2\nsummary,2,0,2,0\n";
 
 #[test]
 fn worked_rows_give_their_transcripts(rt: HostRuntime) -> Result<(), Fail> {
-    let depth = "replay --analyses bfs:0";
-    expect(&rt, over(depth, ABSENT), done(ABSENT_TEXT, 0))?;
-    let length = "replay --analyses sssp:0";
-    for (script, text) in [
-        (COPIES, COPIES_TEXT),
-        (CYCLE, CYCLE_TEXT),
-        (LIMITS, LIMITS_TEXT),
-    ] {
-        expect(&rt, over(length, script), done(text, 0))?;
+    for row in rows() {
+        expect_row(&rt, row)?;
+    }
+    Ok(())
+}
+
+#[test]
+fn numbers_have_limits(rt: HostRuntime) -> Result<(), Fail> {
+    expect_row(&rt, &row_of_limits())
+}
+
+#[test]
+fn two_workers_meet_at_the_gate(rt: HostRuntime) -> Result<(), Fail> {
+    let gate = HoldGate::new(0, 1);
+    let words = "replay --workers 2 --analyses bfs:0";
+    let script = b"risgraph,1,33,2\n0,addv,0\n1,addv,32\n";
+    let ran = run_through(&rt, over(words, script), &gate)?;
+    let text =
+        "0,0,place,1\n1,0,place,2\njournal,entry,1,0,0\njournal,entry,2,1,0\nsummary,2,0,0,0\n";
+    assert_eq!(rt; ran.status, Status::Ok);
+    assert_eq!(rt; ran.out.held(), text.as_bytes());
+    assert!(rt; gate.met());
+    Ok(())
+}
+
+/// A row of one turn: 64 sessions, each of which deletes one of so many copies of an edge that hangs in the forest.
+fn full_turn(alloc: Global, copies: u64) -> Result<(String, String), Fail> {
+    let mut script = format!(in alloc; "risgraph,1,2,64\n")?;
+    for _copy in 0..copies {
+        script.push_str("base,0,1,1\n")?;
+    }
+    let mut replies = String::new(alloc);
+    let mut journal = String::new(alloc);
+    for session in 0..64 {
+        write!(script, "{session},dele,0,1,1\n")?;
+        if session < copies {
+            write!(replies, "{session},0,place,{}\n", session + 1)?;
+            write!(journal, "journal,entry,{},{session},0\n", session + 1)?;
+        } else {
+            write!(replies, "{session},0,noedge,{copies},1\n")?;
+        }
+    }
+    replies.push_str(&journal)?;
+    let refused = 64u64.saturating_sub(copies);
+    write!(replies, "summary,{copies},0,{refused},")?;
+    Ok((script, replies))
+}
+
+const WORDS: &str = "replay --analyses bfs:0";
+
+const FIRST: &[u8] = b"risgraph,1,3,1\n0,adde,0,1,5\n0,value,last,0,1\n";
+
+#[test]
+fn a_full_turn_bounces_the_last_deletions(rt: HostRuntime) -> Result<(), Fail> {
+    for copies in [64, 63] {
+        let (script, text) = full_turn(rt.alloc(), copies)?;
+        let ran = run_over(&rt, over(WORDS, script.as_bytes()))?;
+        let text = format!(in rt.alloc(); "{}{}\n", text, ran.visits)?;
+        assert_eq!(rt; ran.out.held(), text.as_bytes());
+        assert!(rt; ran.visits <= 2);
     }
     Ok(())
 }
@@ -203,6 +202,7 @@ fn worked_rows_give_their_transcripts(rt: HostRuntime) -> Result<(), Fail> {
 #[test]
 fn each_fault_of_a_script_has_its_record(rt: HostRuntime) -> Result<(), Fail> {
     for (script, line) in [
+        ("", "ris: script: record 1: header\n"),
         ("risgraph,3,2,1", "ris: script: record 1: header\n"),
         (
             "risgraph,1,2,1\n0,begin\n0,adde,0,1,1",
@@ -211,7 +211,7 @@ fn each_fault_of_a_script_has_its_record(rt: HostRuntime) -> Result<(), Fail> {
         ("risgraph,1,2,1\n0,commit", "ris: script: record 2: close\n"),
         ("risgraph,1,2,1\n0,frob,1", "ris: script: record 2: op\n"),
         (
-            "risgraph,1,2,1\n1,addv,0",
+            "risgraph,1,2,2\n2,current",
             "ris: script: record 2: session\n",
         ),
         (
@@ -223,7 +223,7 @@ fn each_fault_of_a_script_has_its_record(rt: HostRuntime) -> Result<(), Fail> {
             "ris: script: record 2: analysis\n",
         ),
         (
-            "risgraph,1,2,1\n0,begin\n0,value,last,0,0",
+            "risgraph,1,2,1\n0,begin\n0,current",
             "ris: script: record 3: inside\n",
         ),
         (
@@ -231,16 +231,68 @@ fn each_fault_of_a_script_has_its_record(rt: HostRuntime) -> Result<(), Fail> {
             "ris: script: record 3: parts\n",
         ),
         (
-            "risgraph,1,2,1\n0,addv,0\nbase,0,1,1",
+            "risgraph,1,2,1\n0,current\nbase,0,1,1",
             "ris: script: record 3: base\n",
         ),
         (
             "risgraph,1,2,1\nbase,0,2,1",
             "ris: script: record 2: base\n",
         ),
+        (
+            "risgraph,1,2,1\n0,adde,0,1,18446744073709551616",
+            "ris: script: record 2: field\n",
+        ),
+        (
+            "risgraph,1,2,1\n0,adde,0,1,+5",
+            "ris: script: record 2: field\n",
+        ),
+        (
+            "risgraph,1,2,1\n0,adde,0,1, 5",
+            "ris: script: record 2: field\n",
+        ),
+        (
+            "risgraph,1,2,1\n0,value,@,0,1",
+            "ris: script: record 2: field\n",
+        ),
+        (
+            "risgraph,1,2,1\n-1,current",
+            "ris: script: record 2: field\n",
+        ),
+        ("risgraph,1,2,1\n0", "ris: script: record 2: op\n"),
+        (
+            "risgraph,1,2,1\n0,setw,0,1,1,2",
+            "ris: script: record 2: op\n",
+        ),
+        ("risgraph,1,2,1\n0,leave", "ris: script: record 2: op\n"),
+        (
+            "risgraph,2,2,1\n0,leave\n0,current",
+            "ris: script: record 3: left\n",
+        ),
     ] {
         let given = over("replay --analyses bfs:0", script.as_bytes());
-        expect(&rt, given, refused(Status::Script, line))?;
+        expect_status(&rt, given, Status::Script, "", line)?;
+    }
+    Ok(())
+}
+
+#[test]
+fn a_cut_script_has_an_open_transaction(rt: HostRuntime) -> Result<(), Fail> {
+    let records =
+        "risgraph,1,3,2\n0,begin\n1,begin\n0,adde,0,1,1\n1,adde,0,2,1\n0,adde,1,2,1\n0,commit\n1,commit\n0,value,@1,0,2\n0,value,@2,0,2\n";
+    let mut script = String::new(rt.alloc());
+    let mut number = 0u64;
+    for record in records.lines() {
+        script.push_str(record)?;
+        script.push_str("\n")?;
+        number = number.saturating_add(1);
+        let given = over(WORDS, script.as_bytes());
+        if (2..=7).contains(&number) {
+            let line = format!(in rt.alloc(); "ris: script: record {number}: close\n")?;
+            expect_status(&rt, given, Status::Script, "", &line)?;
+        } else {
+            let ran = run_over(&rt, given)?;
+            assert_eq!(rt; ran.status, Status::Ok);
+        }
     }
     Ok(())
 }
@@ -259,12 +311,11 @@ fn a_transaction_has_a_greatest_length(rt: HostRuntime) -> Result<(), Fail> {
     let long = transaction(rt.alloc(), 1025)?;
     let given = over("replay --analyses bfs:0", long.as_slice());
     let line = "ris: script: record 1027: parts\n";
-    expect(&rt, given, refused(Status::Script, line))
+    expect_status(&rt, given, Status::Script, "", line)
 }
 
 #[test]
 fn each_status_has_its_line(rt: HostRuntime) -> Result<(), Fail> {
-    let usage = refused(Status::Usage, "ris: usage\n");
     for words in [
         "",
         "replay",
@@ -275,21 +326,19 @@ fn each_status_has_its_line(rt: HostRuntime) -> Result<(), Fail> {
         "replay --analyses bfs:00000000",
         "replay --analyses wcc,",
         "replay --analyses wcc,wcc,wcc,wcc,wcc",
+        "replay --analyses wcc --workers 65",
         "replay --analyses bfs:0 more",
         "replay --analysis bfs:0",
+        "replay --threads --analyses wcc",
+        "demo",
+        "demo 4294967296",
+        "demo 1 --size 0",
+        "demo 1 --size 1000001",
+        "demo 1 --analyses wcc",
     ] {
-        expect(&rt, over(words, FIRST), usage)?;
+        expect_status(&rt, over(words, FIRST), Status::Usage, "", "ris: usage\n")?;
     }
-    expect(
-        &rt,
-        over(WORDS, b"risgraph,1,3,1\n0,path,last,0,2\n"),
-        refused(Status::Script, "ris: script: record 2: op\n"),
-    )?;
-    expect(
-        &rt,
-        over(WORDS, b""),
-        refused(Status::Script, "ris: script: record 1: header\n"),
-    )
+    Ok(())
 }
 
 #[test]
@@ -306,7 +355,7 @@ fn a_stream_that_fails_ends_the_run(rt: HostRuntime) -> Result<(), Fail> {
         } else {
             "ris:"
         };
-        expect(&rt, reading, refused(Status::ReadFault, line))?;
+        expect_status(&rt, reading, Status::ReadFault, "", line)?;
         let writing = Given {
             write_cut: 8,
             write_fails: 2,
@@ -318,13 +367,7 @@ fn a_stream_that_fails_ends_the_run(rt: HostRuntime) -> Result<(), Fail> {
         } else {
             "ris:"
         };
-        let wanted = Wanted {
-            status: Status::WriteFault,
-            out: "0,0,plac",
-            faults: line,
-            visits: 0,
-        };
-        expect(&rt, writing, wanted)?;
+        expect_status(&rt, writing, Status::WriteFault, "0,0,plac", line)?;
     }
     Ok(())
 }
@@ -352,16 +395,37 @@ fn over<'a>(words: &'a str, script: &'a [u8]) -> Given<'a> {
 fn a_script_has_a_greatest_length(rt: HostRuntime) -> Result<(), Fail> {
     let long = line_feeds(rt.alloc(), 67_108_865)?;
     let whole = over(WORDS, long.as_slice());
-    expect(
-        &rt,
-        whole,
-        refused(Status::TooLong, "ris: input too long\n"),
-    )?;
+    let line = "ris: input too long\n";
+    expect_status(&rt, whole, Status::TooLong, "", line)?;
     let limit = line_feeds(rt.alloc(), 67_108_864)?;
     let shorter = over(WORDS, limit.as_slice());
-    expect(
-        &rt,
-        shorter,
-        refused(Status::Script, "ris: script: record 1: header\n"),
-    )
+    let line = "ris: script: record 1: header\n";
+    expect_status(&rt, shorter, Status::Script, "", line)
+}
+
+#[test]
+fn a_demo_writes_the_last_line_of_its_replay(rt: HostRuntime) -> Result<(), Fail> {
+    let script = make_script(rt.alloc(), 1, 2000)?.into_vec();
+    let words = "replay --analyses bfs:0,sssp:0,wcc";
+    let replayed = run_over(&rt, over(words, script.as_slice()))?;
+    assert_eq!(rt; replayed.status, Status::Ok);
+    for words in ["demo 1", "demo 1 --workers 4", "demo 1 --workers 64"] {
+        let unread = Given {
+            read_fails: 1,
+            ..over(words, FIRST)
+        };
+        let made = run_over(&rt, unread)?;
+        assert_eq!(rt; made.status, Status::Ok);
+        assert!(rt; made.out.held().starts_with(b"summary,"));
+        assert!(rt; replayed.out.held().ends_with(made.out.held()));
+        assert_eq!(rt; made.visits, replayed.visits);
+    }
+    Ok(())
+}
+
+#[test]
+fn a_long_demo_ends(rt: HostRuntime) -> Result<(), Fail> {
+    let ran = run_over(&rt, over("demo 1 --size 20000", b""))?;
+    assert_eq!(rt; ran.status, Status::Ok);
+    Ok(())
 }

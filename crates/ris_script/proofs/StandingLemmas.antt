@@ -1,10 +1,10 @@
 -- What each saying and each record makes of a session.
-use Rattle.std.proofs.Common.{◌≡◌, ◌≢◌, ◌≤◌, ◌==◌, ◌&&◌, ◌||◌, ℕ, Bool, true, false, List, [], ◌∷◌, ◌++◌, Option, Some, None, Result, Ok, Err, length, drop, is_some, arith, refl, subst, sym, ap, ◌∙◌, if◌then◌else◌}
+use Rattle.std.proofs.Common.{◌≡◌, ◌≢◌, ◌≤◌, ◌==◌, ◌||◌, ℕ, Bool, true, false, List, [], ◌∷◌, ◌++◌, Option, Some, None, Result, Ok, Err, length, drop, is_some, arith, refl, subst, sym, ap, ◌∙◌, if◌then◌else◌}
 use Rattle.std.specs.Option.{option_and_then}
 use Rattle.std.proofs.lemmas.Grind.{common_steps}
 use Rattle.std.proofs.lemmas.List.{append-nil}
 use Rattle.csv.specs.Records.{field_at}
-use Rattle.ris_base.specs.Script.{Asks, Closes, Fields, Header, Opens, Part, Saying, Word, commands_behind, is_built, is_leave, is_of_format, word_of, word_said}
+use Rattle.ris_base.specs.Script.{Asks, Closes, Fields, Header, Opens, Part, Saying, Word, commands_behind, is_leave, is_of_format, word_of, word_said}
 use Rattle.ris_base.specs.declared.commands.Command.{Command}
 use Rattle.ris_base.specs.declared.commands.Command.TheVariants.{Change}
 use Rattle.ris_base.specs.declared.scripts.Cause.{Cause}
@@ -119,7 +119,7 @@ word_said-long h (name ∷ field ∷ fields) word e = omega arith
 
 -- the word of a record is that of its second field
 pub word_said_at : (h : Header) (fields : Fields) → word_said h fields
-    ≡ option_and_then (λ (field : List ℕ). option_and_then (λ (word : Word). if is_of_format h.format word && is_built word then Some word else None) (word_of field)) (field_at fields 1)
+    ≡ option_and_then (λ (field : List ℕ). option_and_then (λ (word : Word). if is_of_format h.format word then Some word else None) (word_of field)) (field_at fields 1)
 unfolding field_at
 word_said_at h [] = refl
 word_said_at h (name ∷ []) = refl

@@ -1,4 +1,5 @@
 pub mod Bytes
+pub mod Digits
 pub mod Headers
 pub mod Left
 pub mod Progress

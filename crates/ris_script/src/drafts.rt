@@ -7,11 +7,12 @@ ghost use Rattle.ris_script.specs.Headers.{header_meaning};
 ghost use Rattle.ris_script.specs.Progress.{finished, is_open, progress_behind_header, progressed, with_base, with_record};
 ghost use Rattle.ris_script.specs.Standing.{Becomes, Gives, silent};
 
+use crate::digits::number_in;
 use crate::faults::RecordError;
 use crate::headers::Header;
 use crate::sessions::Session;
 use csv::ByteRecord;
-use ris_base::{Cause, CommandLists, NoMemory, Script, Triples, read_number};
+use ris_base::{Cause, CommandLists, NoMemory, Script, Triples};
 use std::alloc::Global;
 use std::marker::Model;
 
@@ -61,7 +62,7 @@ impl Draft {
         if name == b"base".as_slice() {
             return self.record_base(row);
         }
-        match read_number(name) {
+        match number_in(name) {
             Some(session) => self.record_session(session, analyses, row),
             None => Err(RecordError::Fault(Cause::Field)),
         }

@@ -7,10 +7,9 @@ ghost use Rattle.ris_base.specs.Number.{number_of};
 ghost use Rattle.ris_base.specs.Script as script;
 ghost use Rattle.ris_script.specs.Headers.{header_meaning};
 
-use crate::built::SESSIONS_BUILT;
 use crate::rows::{base_numbers, number_at};
 use csv::ByteRecord;
-use ris_base::{Format, Triple, VERTEX_LIMIT};
+use ris_base::{Format, SESSION_LIMIT, Triple, VERTEX_LIMIT};
 
 /// What a header says: the format, up to 4,194,304 vertices, and at least one session.
 #[derive(Clone, Copy)]
@@ -93,13 +92,13 @@ fn vertices_of(row: &ByteRecord) -> Option<u32>
     }
 }
 
-/// The number of sessions of a header. `None` exactly where the field spells none from 1 to the number that is built.
+/// The number of sessions of a header. `None` exactly where the field spells none from 1 to 64.
 fn sessions_of(row: &ByteRecord) -> Option<u32>
     ensures { result ≡ option_and_then script.sessions_within
         (option_and_then number_of (field_at (fields_of row.now) 3)) }
 {
     let n = number_at(row, 3)?;
-    if n >= 1 && n <= SESSIONS_BUILT {
+    if n >= 1 && n <= SESSION_LIMIT {
         Some(n as u32)
     } else {
         None

@@ -2,7 +2,7 @@
 //! `script_of` of specs/Bytes.antt.
 #![tactic(auto)]
 
-mod built;
+mod digits;
 mod drafts;
 mod faults;
 mod headers;

@@ -7,6 +7,7 @@ ghost use Rattle.ris_base.specs.Script.{version_of};
 ghost use Rattle.ris_script.specs.Left.{GivesRecords, records_left};
 ghost use Rattle.ris_script.specs.Sayings.{numbers_in, version_and_numbers_in};
 
+use crate::digits::number_in;
 use csv::{ByteRecord, Reader};
 use ris_base::{NoMemory, Version, read_number};
 
@@ -30,7 +31,7 @@ pub(crate) fn advance(reader: &mut Reader<&[u8]>, row: &mut ByteRecord) -> Resul
 pub(crate) fn number_at(row: &ByteRecord, place: usize) -> Option<u64>
     ensures { result ≡ option_and_then number_of (field_at (fields_of row.now) place) }
 {
-    read_number(row.get(place)?)
+    number_in(row.get(place)?)
 }
 
 /// The number behind the first two fields. `None` exactly where not one field is there, or it spells none.

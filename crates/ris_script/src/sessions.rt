@@ -6,7 +6,6 @@ ghost use Rattle.ris_script.specs.Headers.{header_meaning};
 ghost use Rattle.ris_script.specs.Sayings.{saying_meaning, word_meaning};
 ghost use Rattle.ris_script.specs.Standing.{Becomes, heard, part_added, recorded, silent};
 
-use crate::built::is_built;
 use crate::faults::RecordError;
 use crate::headers::Header;
 use crate::sayings::{Saying, read_saying};
@@ -156,13 +155,13 @@ impl Session {
     }
 }
 
-/// The word of a record, where it is built and one of the header's format. `None` exactly where there is none.
+/// The word of a record, where it is one of the header's format. `None` exactly where there is none.
 #[tactic(auto, using(crate::proofs::StandingLemmas::word_said_at))]
 fn read_word(header: Header, row: &ByteRecord) -> Option<Word>
     ensures { option_map word_meaning result ≡ script.word_said (header_meaning header) (fields_of row.now) }
 {
     let word = Word::of(row.get(1)?)?;
-    if word.is_of(header.format) && is_built(word) {
+    if word.is_of(header.format) {
         Some(word)
     } else {
         None

@@ -5,6 +5,7 @@ pub mod Finding
 pub mod Fitting
 pub mod ItemLemmas
 pub mod MadeLemmas
+pub mod MadeLimits
 pub mod Reading
 pub mod Telling
 pub mod Walking

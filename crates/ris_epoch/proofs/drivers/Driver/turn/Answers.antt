@@ -6,7 +6,7 @@ use Rattle.ris_epoch.specs.DriverView.{StandsFor}
 use Rattle.ris_epoch.specs.Ordering.{AreOrdered}
 use Rattle.ris_epoch.specs.Turning.{HasBegun, IsBegun}
 use Rattle.ris_epoch.proofs.OrderingLemmas.{ordered-length}
-use Rattle.ris_epoch.proofs.TurnParts.{IsAtTail, IsTaken, at-epoch, at-here, at-none, at-rises, at-seal}
+use Rattle.ris_epoch.proofs.TurnParts.{IsAtTail, IsTaken, at-epoch, at-here, at-none, at-order, at-rises, at-seal}
 use Rattle.ris_epoch.proofs.drivers.Driver.turn.Goals as goal
 use Rattle.ris_epoch.proofs.drivers.Driver.turn.Goals.{then-len-gt0, else-len-gt0}
 
@@ -141,6 +141,25 @@ returns-clause-epoch g c =
     λ base records stands.
     (let e = at-epoch batch c.args.self.now c.if-len-gt0.self c.handle_all.new.self c.if-len-gt0.batch-inside.rest (g.M.Meter.ticks c.args.meter.now)
     (g.M.Meter.ticks c.handle_all.new.meter) at c.handle_all.ensures.handles taken base records stands in (e.0, e.1, e.2, c.len-tail.ensures ∙ e.3))
+
+pub returns-clause-order : goal.returns-clause-order
+returns-clause-order g c =
+    let batch = c.args.batch.now in
+    let m = c.split.new.self in
+    let order = c.split.new.candidates in
+    let rest = c.split.new.rest in
+    let taken : IsTaken batch c.args.self.now = record { ordered = subst (AreOrdered 0) c.batch.view_is c.batch.invariant.0; here = c.requires.here } in
+    let begun = λ (base : Ground) (records : List Record) (stands : StandsFor c.args.self.now base records).
+    subst (λ (rs : List Request). HasBegun base records rs m order rest) c.batch.view_is (c.split.ensures.begun base records stands) in
+    let some : IsBegun batch m order rest = subst (λ (rs : List Request). IsBegun rs m order rest) c.batch.view_is c.split.ensures.some in
+    let at : IsAtTail batch c.args.self.now c.if-len-gt0.self c.if-len-gt0.batch-inside.rest = elim c.if-len-gt0.branch [
+      | then-len-gt0 w ↦ rw (w.self-is, w.batch-inside-is) (at-seal batch c.args.self.now m w.decide.new.self order rest w.decide.new.rest taken begun some c.split.ensures.lines
+          c.split.ensures.opening w.decide.ensures.sealed w.decide.ensures.counts w.decide.ensures.fronts w.decide.ensures.opening)
+      | else-len-gt0 w ↦ rw (w.self-is, w.batch-inside-is) (at-none batch c.args.self.now m order rest (omega arith) begun some c.split.ensures.lines c.split.ensures.opening)
+    ] in
+    λ base records stands.
+    at-order batch c.args.self.now c.if-len-gt0.self c.handle_all.new.self c.if-len-gt0.batch-inside.rest (g.M.Meter.ticks c.args.meter.now) (g.M.Meter.ticks c.handle_all.new.meter) at
+    c.handle_all.ensures.handles taken base records stands
 
 pub returns-clause-entries : goal.returns-clause-entries
 returns-clause-entries g c =

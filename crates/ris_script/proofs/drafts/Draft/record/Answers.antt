@@ -15,12 +15,12 @@ returns-then-eq c =
     let base : bytes_eq name (codes "base") ≡ true = search rules in
     rw (progressed-base c.args.analyses c.args.self.now (fields_of c.args.row.now) name first base) c.record_base.ensures
 
-pub returns-in-Some-read_number : goal.returns-in-Some-read_number
-returns-in-Some-read_number c =
+pub returns-in-Some-number_in : goal.returns-in-Some-number_in
+returns-in-Some-number_in c =
     let name = c.in-Some.name.now in
     let first : field_at (fields_of c.args.row.now) 0 ≡ Some name = search rules in
     let other : bytes_eq name (codes "base") ≡ false = search rules in
-    let number = c.in-Some-read_number.ensures {u = tt} in
+    let number = c.in-Some-number_in.ensures {u = tt} in
     rw (progressed-other c.args.analyses c.args.self.now (fields_of c.args.row.now) name first other, ← number) c.record_session.ensures
 
 pub returns-in-None : goal.returns-in-None

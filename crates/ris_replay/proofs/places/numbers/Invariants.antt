@@ -1,6 +1,0 @@
-use Rattle.std.proofs.Common.{◌≡◌}
-use Rattle.ris_base.specs.Lists.{numbers_below}
-use Rattle.ris_replay.proofs.places.numbers.Given as goal
-
-abbrev pub invariant-loop-x : goal.invariant-loop-x
-invariant-loop-x l = l.numbers ≡ numbers_below l.x
