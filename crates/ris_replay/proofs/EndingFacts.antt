@@ -20,14 +20,15 @@ abbrev pub IsDetermined : Program → Type 0
 IsDetermined program = (words : List Bytes) (a b : Job) → program.Takes words a → program.Takes words b → a ≡ b
 
 -- a count that rose isn't the same
-rose-same : (before after : ℕ) → before < 2 ^ 64 - 1 → Rose before after → after ≡ before → ⊥
+pub rose-same : (before after : ℕ) → before < 2 ^ 64 - 1 → Rose before after → after ≡ before → ⊥
 rose-same before after small rose same = omega arith
 
 some-of : {X : Type 0} (o : Option X) → IsSome o → (x : X) × (o ≡ Some x)
 some-of None h = cc
 some-of (Some x) h = (x, refl)
 
-ok-err : {T E : Type 0} (r : Result T E) → IsOk r → IsErr r → ⊥
+-- a result isn't both
+pub ok-err : {T E : Type 0} (r : Result T E) → IsOk r → IsErr r → ⊥
 ok-err (Ok x) a b = cc
 ok-err (Err e) a b = cc
 

@@ -1,13 +1,11 @@
 -- The job that words say, and what it is done with.
-use Rattle.std.proofs.Common.{◌≡◌, ℕ, zero, suc, ◌<◌, ◌≤◌, Bool, true, false, List, [], ◌∷◌, Option, Some, None, Result, Ok, Err, length, take, drop, sum_by, refl, sym, ◌∙◌, ap, subst, codes, arith}
-use Rattle.std.specs.List.{All}
+use Rattle.std.proofs.Common.{◌≡◌, ℕ, ◌≤◌, Bool, true, false, List, [], ◌∷◌, Option, Some, None, length, take, drop, sum_by, refl, sym, ◌∙◌, ap, subst, codes, arith}
 use Rattle.std.specs.Option.{option_map}
 use Rattle.std.specs.Str.{bytes_eq}
 use Rattle.std.proofs.lemmas.List.Elements.{All-cons, All-nil}
 use Rattle.ris_analysis.specs.Analyses.{ArePlainSpecs}
-use Rattle.ris_base.specs.CommandLine.{Choice, IsAnalysisList, IsDemo, IsPlain, IsReplay, SpellAll, SpellsAnalyses, analyses_said, analysis_named, root_of, rooted, size_said, workers_said}
+use Rattle.ris_base.specs.CommandLine.{Choice, IsAnalysisList, SpellAll, analyses_said, analysis_named, root_of, rooted, size_said, workers_said}
 use Rattle.ris_base.specs.CommandLine.Choice.{Threads, Workers, Size, Analyses}
-use Rattle.ris_base.specs.Limits.{script_limit}
 use Rattle.ris_base.specs.Lists.{EachPair}
 use Rattle.ris_base.specs.Script.{Bytes}
 use Rattle.ris_base.specs.Status.{Stream, specs_of}
@@ -19,7 +17,6 @@ use Rattle.ris_base.specs.declared.jobs.Job.TheVariants.{Demo, Replay}
 use Rattle.ris_base.specs.declared.scripts.Script.{Script}
 use Rattle.ris_script.specs.Bytes.{script_of}
 use Rattle.ris_words.proofs.CommandLines.{one_job}
-use Rattle.ris_words.specs.Made.{made_script}
 use Rattle.ris_replay.specs.Jobs.{AreFit, HasBytes, IsFit, IsSize, SpellsFew}
 use Rattle.ris_replay.specs.Program.{Takes}
 use Rattle.ris_replay.proofs.MadeFacts.{made-script}

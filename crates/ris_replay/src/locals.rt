@@ -1,9 +1,9 @@
-ghost use Rattle.std.specs.Prelude.{◌≡◌, ◌-◌, ◌≤◌, length, sum_by, IfOk};
+ghost use Rattle.std.specs.Prelude.{◌≡◌, ◌-◌, ◌^◌, ◌<◌, ◌≤◌, length, sum_by, IfOk};
 ghost use Rattle.ris_analysis.specs.Analyses.{ArePlainSpecs};
 ghost use Rattle.ris_base.specs.Limits.{script_limit};
 ghost use Rattle.ris_base.specs.Shape.{IsReadable};
 ghost use Rattle.ris_replay.specs.Playing.{AreAnswered};
-ghost use Rattle.ris_replay.specs.Visits.{AreWithinReach, Rises};
+ghost use Rattle.ris_replay.specs.Visits.{AreWithinReach};
 
 use crate::rounds::Rounds;
 use ris_base::{Gate, Lines, Logs, Meter, NoMemory, Script, Specs};
@@ -43,7 +43,8 @@ pub fn replay_local<R: Threads + Sync, M: Meter, G: Gate>(
     ensures answered { IfOk result (λ played. AreAnswered script specs.now played.logs played.lines) }
     ensures visits { IfOk result (λ played. played.visits ≡ M.ticks meter.new - M.ticks meter.old) }
     ensures within { IfOk result (λ played. AreWithinReach script specs.now played.logs played.lines played.visits) }
-    ensures rise { Rises (M.ticks meter.old) (M.ticks meter.new) }
+    ensures ticks { M.ticks meter.old ≤ M.ticks meter.new }
+    ensures below { M.ticks meter.new < 2 ^ 64 }
 {
     let before = meter.total();
     let mut rounds = Rounds::start(alloc, script, specs, meter)?;

@@ -61,13 +61,6 @@ pub(crate) fn rows() -> &'static [Row] {
             text: "0,0,place,1\n0,1,value,1,1,1\n0,2,value,1,1,1\n0,3,value,1,1,3\n0,4,modified,1,1,1,3\njournal,entry,1,0,0\nsummary,1,0,0,",
             most: 8,
         },
-        // Two deletions of the copies of one tree edge in one turn.
-        Row {
-            words: "replay --analyses bfs:0",
-            script: "risgraph,1,2,2\nbase,0,1,0\nbase,0,1,0\n0,dele,0,1,0\n1,dele,0,1,0\n0,value,last,0,1\n1,value,last,0,1\n",
-            text: "0,0,place,1\n0,1,value,2,1,1\n1,0,place,2\n1,1,value,2,2,unreached\njournal,entry,1,0,0\njournal,entry,2,1,0\nsummary,2,0,0,",
-            most: 2,
-        },
         // A parent changes and no value does.
         Row {
             words: "replay --analyses sswp:0",
@@ -103,26 +96,12 @@ pub(crate) fn rows() -> &'static [Row] {
             text: "0,0,place,1\n0,1,place,2\n0,2,notyet,2\n0,3,notyet,2\n0,4,value,2,2,1\n0,5,notyet,2\njournal,entry,1,0,0\njournal,entry,2,0,1\nsummary,2,0,3,",
             most: 0,
         },
-        // Marks and the floor.
-        Row {
-            words: "replay --analyses bfs:0",
-            script: "risgraph,1,2,2\n0,adde,0,1,1\n0,adde,0,1,2\n0,release,4\n0,value,@1,0,1\n1,addv,0\n1,addv,0\n1,addv,0\n1,value,@1,0,1\n1,release,3\n1,value,@2,0,1\n1,value,@3,0,1\n1,current\n",
-            text: "0,0,place,2\n0,1,place,3\n0,2,marked,5,4\n0,3,value,5,1,unreached\n1,0,place,1\n1,1,place,4\n1,2,place,5\n1,3,value,5,1,unreached\n1,4,marked,5,3\n1,5,released,5,3\n1,6,value,5,3,1\n1,7,current,5,3\njournal,entry,1,1,0\njournal,entry,2,0,0\njournal,entry,3,0,1\njournal,entry,4,1,1\njournal,entry,5,1,2\njournal,mark,5,0,2\njournal,mark,5,1,4\nsummary,5,2,1,",
-            most: 0,
-        },
         // Paths.
         Row {
             words: "replay --analyses bfs:0",
             script: "risgraph,1,4,1\nbase,0,1,1\nbase,1,2,1\n0,path,@0,0,2\n0,path,@0,0,0\n0,path,@0,0,3\n0,parent,@0,0,0\n",
             text: "0,0,path,0,0,3,2,1,0\n0,1,path,0,0,1,0\n0,2,path,0,0,0\n0,3,parent,0,0,none\nsummary,0,0,0,",
             most: 4,
-        },
-        // A candidate that is refused before one that is applied.
-        Row {
-            words: "replay --analyses bfs:0",
-            script: "risgraph,1,2,2\nbase,0,1,1\n0,dele,0,1,3\n1,adde,0,1,3\n",
-            text: "0,0,noedge,0,1\n1,0,place,1\njournal,entry,1,1,0\nsummary,1,0,1,",
-            most: 2,
         },
         // Two transactions whose records interleave.
         Row {
@@ -193,6 +172,33 @@ pub(crate) fn rows() -> &'static [Row] {
             script: "risgraph,1,2,1\n00,adde,00,01,05\n",
             text: "0,0,place,1\njournal,entry,1,0,0\nsummary,1,0,0,",
             most: 0,
+        },
+    ]
+}
+
+/// Rows whose sessions meet in one turn.
+pub(crate) fn rows_of_turns() -> &'static [Row] {
+    &[
+        // Two deletions of the copies of one tree edge in one turn.
+        Row {
+            words: "replay --analyses bfs:0",
+            script: "risgraph,1,2,2\nbase,0,1,0\nbase,0,1,0\n0,dele,0,1,0\n1,dele,0,1,0\n0,value,last,0,1\n1,value,last,0,1\n",
+            text: "0,0,place,1\n0,1,value,2,1,1\n1,0,place,2\n1,1,value,2,2,unreached\njournal,entry,1,0,0\njournal,entry,2,1,0\nsummary,2,0,0,",
+            most: 2,
+        },
+        // Marks and the floor.
+        Row {
+            words: "replay --analyses bfs:0",
+            script: "risgraph,1,2,2\n0,adde,0,1,1\n0,adde,0,1,2\n0,release,4\n0,value,@1,0,1\n1,addv,0\n1,addv,0\n1,addv,0\n1,value,@1,0,1\n1,release,3\n1,value,@2,0,1\n1,value,@3,0,1\n1,current\n",
+            text: "0,0,place,2\n0,1,place,3\n0,2,marked,5,4\n0,3,value,5,1,unreached\n1,0,place,1\n1,1,place,4\n1,2,place,5\n1,3,value,5,1,unreached\n1,4,marked,5,3\n1,5,released,5,3\n1,6,value,5,3,1\n1,7,current,5,3\njournal,entry,1,1,0\njournal,entry,2,0,0\njournal,entry,3,0,1\njournal,entry,4,1,1\njournal,entry,5,1,2\njournal,mark,5,0,2\njournal,mark,5,1,4\nsummary,5,2,1,",
+            most: 0,
+        },
+        // A candidate that is refused before one that is applied.
+        Row {
+            words: "replay --analyses bfs:0",
+            script: "risgraph,1,2,2\nbase,0,1,1\n0,dele,0,1,3\n1,adde,0,1,3\n",
+            text: "0,0,noedge,0,1\n1,0,place,1\njournal,entry,1,1,0\nsummary,1,0,1,",
+            most: 2,
         },
     ]
 }

@@ -52,10 +52,11 @@ pub fn run<R: Threads + Wait + Sync, I: Source, O: Sink, F: Sink, M: Meter, G: G
 /// 67,108,864 bytes; `Script` where its bytes spell no script; `WriteFault` where a write failed; `NoMemory` where memory was
 /// wanted, all of which is taken before the first byte is written. A demo leaves the input alone, and ends by `Ok`,
 /// `WriteFault` or `NoMemory`. The faults grow by the line of the status, or by a prefix of it where their own count of faults
-/// rose; that changes no status.
+/// rose; that changes no status. Where the words say a job, an input that it reads is short enough and spells a script, and no read
+/// and no write failed, it ends by `Ok` or `NoMemory`.
 ///
-/// A change takes time with its visits, and a read looks up one place. The meter ticks once for each visit, and a script that
-/// only adds takes at most the reach of the start and of the entries.
+/// The meter ticks once for each visit. A script that only adds, where no reply wants memory, takes at most the reach of the start
+/// and of the entries.
 pub fn run_inline<R: Threads + Sync, I: Source, O: Sink, F: Sink, M: Meter, G: Gate>(
     rt: &R,
     alloc: Global,
@@ -204,8 +205,6 @@ fn played<R: Threads + Sync, M: Meter, G: Gate>(
     ensures ticks { M.ticks meter.old ≤ M.ticks meter.new }
 {
     let script = script_in(alloc, bytes, specs.len() as u32)?;
-    // A count that was read is below 2^64.
-    let _visits = meter.total();
     Ok(replay_local(rt, alloc, script, specs, workers, gate, meter)?)
 }
 

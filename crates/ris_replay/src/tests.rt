@@ -1,4 +1,4 @@
-use crate::rows::{Row, row_of_limits, rows};
+use crate::rows::{Row, row_of_limits, rows, rows_of_turns};
 use crate::run_inline;
 use ris_base::{Bytes, FreeGate, Gate, Meter, Status, Words};
 use ris_io::{Calls, MemSink, MemSource};
@@ -30,23 +30,23 @@ impl Meter for Count {
 /// What a run over memory is given: its words in one text with blanks between them, the bytes of its input, and the number
 /// of the call of each stream that fails, 0 for none.
 #[derive(Clone, Copy)]
-struct Given<'a> {
-    words: &'a str,
-    script: &'a [u8],
-    read_cut: u64,
-    read_fails: u64,
-    write_cut: u64,
-    write_fails: u64,
-    report_fails: u64,
+pub(crate) struct Given<'a> {
+    pub(crate) words: &'a str,
+    pub(crate) script: &'a [u8],
+    pub(crate) read_cut: u64,
+    pub(crate) read_fails: u64,
+    pub(crate) write_cut: u64,
+    pub(crate) write_fails: u64,
+    pub(crate) report_fails: u64,
 }
 
 /// What a run over memory gave.
 #[derive(Drop)]
-struct Ran {
-    status: Status,
-    out: MemSink,
-    faults: MemSink,
-    visits: u64,
+pub(crate) struct Ran {
+    pub(crate) status: Status,
+    pub(crate) out: MemSink,
+    pub(crate) faults: MemSink,
+    pub(crate) visits: u64,
 }
 
 fn calls(alloc: Global, number: u64) -> Result<Calls, Fail> {
@@ -61,7 +61,7 @@ fn calls(alloc: Global, number: u64) -> Result<Calls, Fail> {
 const EARLIER: u64 = 5;
 
 /// Runs what is given, with a gate that holds nobody.
-fn run_over<R: Threads + Sync + AllocGlobal>(rt: &R, given: Given) -> Result<Ran, Fail> {
+pub(crate) fn run_over<R: Threads + Sync + AllocGlobal>(rt: &R, given: Given) -> Result<Ran, Fail> {
     run_through(rt, given, &FreeGate)
 }
 
@@ -106,14 +106,29 @@ fn run_through<R: Threads + Sync + AllocGlobal, G: Gate>(
     })
 }
 
-/// Runs a row, and compares what it gives. Its last number is the rise of the meter.
+/// Runs a row, and compares what it gives.
 fn expect_row<R: Threads + Sync + AllocGlobal + Abort>(rt: &R, row: &Row) -> Result<(), Fail> {
-    let ran = run_over(rt, over(row.words, row.script.as_bytes()))?;
-    let text = format!(in rt.alloc(); "{}{}\n", row.text, ran.visits)?;
-    assert_eq!(rt; ran.status, Status::Ok, "at {}", row.script);
-    assert_eq!(rt; ran.out.held(), text.as_bytes(), "at {}", row.script);
+    expect_text(
+        rt,
+        over(row.words, row.script.as_bytes()),
+        row.text,
+        row.most,
+    )
+}
+
+/// Runs what ends by `Ok`, and compares what it gives. Its last number is the rise of the meter.
+fn expect_text<R: Threads + Sync + AllocGlobal + Abort>(
+    rt: &R,
+    given: Given,
+    text: &str,
+    most: u64,
+) -> Result<(), Fail> {
+    let ran = run_over(rt, given)?;
+    let text = format!(in rt.alloc(); "{}{}\n", text, ran.visits)?;
+    assert_eq!(rt; ran.status, Status::Ok, "at {:?}", given.script);
+    assert_eq!(rt; ran.out.held(), text.as_bytes(), "at {:?}", given.script);
     assert_eq!(rt; ran.faults.held(), b"".as_slice());
-    assert!(rt; ran.visits <= row.most, "at {}", row.script);
+    assert!(rt; ran.visits <= most, "at {:?}", given.script);
     Ok(())
 }
 
@@ -137,6 +152,19 @@ fn expect_status<R: Threads + Sync + AllocGlobal + Abort>(
 fn worked_rows_give_their_transcripts(rt: HostRuntime) -> Result<(), Fail> {
     for row in rows() {
         expect_row(&rt, row)?;
+    }
+    Ok(())
+}
+
+#[test]
+fn any_number_of_workers_gives_one_transcript(rt: HostRuntime) -> Result<(), Fail> {
+    for row in rows_of_turns() {
+        expect_row(&rt, row)?;
+        for workers in [1, 4, 64] {
+            let words = format!(in rt.alloc(); "{} --workers {workers}", row.words)?;
+            let given = over(&words, row.script.as_bytes());
+            expect_text(&rt, given, row.text, row.most)?;
+        }
     }
     Ok(())
 }
@@ -275,6 +303,22 @@ fn each_fault_of_a_script_has_its_record(rt: HostRuntime) -> Result<(), Fail> {
     Ok(())
 }
 
+/// The transcript of the first records of two transactions and two reads, but for its last number.
+fn text_of_records(records: u64) -> &'static str {
+    match records {
+        1 => "summary,0,0,0,",
+        8 => {
+            "0,0,place,1\n1,0,place,2\njournal,entry,1,0,0\njournal,entry,2,1,0\nsummary,2,0,0,"
+        }
+        9 => {
+            "0,0,place,1\n0,1,value,2,1,2\n1,0,place,2\njournal,entry,1,0,0\njournal,entry,2,1,0\nsummary,2,0,0,"
+        }
+        _ => {
+            "0,0,place,1\n0,1,value,2,1,2\n0,2,value,2,2,1\n1,0,place,2\njournal,entry,1,0,0\njournal,entry,2,1,0\nsummary,2,0,0,"
+        }
+    }
+}
+
 #[test]
 fn a_cut_script_has_an_open_transaction(rt: HostRuntime) -> Result<(), Fail> {
     let records =
@@ -290,8 +334,7 @@ fn a_cut_script_has_an_open_transaction(rt: HostRuntime) -> Result<(), Fail> {
             let line = format!(in rt.alloc(); "ris: script: record {number}: close\n")?;
             expect_status(&rt, given, Status::Script, "", &line)?;
         } else {
-            let ran = run_over(&rt, given)?;
-            assert_eq!(rt; ran.status, Status::Ok);
+            expect_text(&rt, given, text_of_records(number), 1)?;
         }
     }
     Ok(())
@@ -372,6 +415,78 @@ fn a_stream_that_fails_ends_the_run(rt: HostRuntime) -> Result<(), Fail> {
     Ok(())
 }
 
+/// The row of two sessions that delete the two copies of an edge.
+fn row_of_copies() -> Result<Row, Fail> {
+    match rows_of_turns().first() {
+        Some(row) => Ok(*row),
+        None => Err(Fail::from("no row")),
+    }
+}
+
+#[test]
+fn each_call_of_a_source_may_fail(rt: HostRuntime) -> Result<(), Fail> {
+    let row = row_of_copies()?;
+    let last = row.script.len() as u64 + 1;
+    for read_fails in 1..=last {
+        for (report_fails, line) in [(0, "ris: read fault\n"), (1, "")] {
+            let reading = Given {
+                read_cut: 1,
+                read_fails,
+                report_fails,
+                ..over(row.words, row.script.as_bytes())
+            };
+            expect_status(&rt, reading, Status::ReadFault, "", line)?;
+        }
+    }
+    let reading = Given {
+        read_cut: 1,
+        read_fails: last.saturating_add(1),
+        report_fails: 1,
+        ..over(row.words, row.script.as_bytes())
+    };
+    expect_text(&rt, reading, row.text, row.most)
+}
+
+/// Expects the prefix of a whole output that a sink holds whose calls take one byte each, and of which this one fails.
+fn expect_prefix<R: Threads + Sync + AllocGlobal + Abort>(
+    rt: &R,
+    row: &Row,
+    whole: &[u8],
+    write_fails: u64,
+) -> Result<(), Fail> {
+    for (report_fails, line) in [(0, "ris: write fault\n"), (1, "")] {
+        let writing = Given {
+            write_cut: 1,
+            write_fails,
+            report_fails,
+            ..over(row.words, row.script.as_bytes())
+        };
+        let ran = run_over(rt, writing)?;
+        assert_eq!(rt; ran.status, Status::WriteFault, "at call {write_fails}");
+        assert_eq!(rt; ran.out.held().len() as u64, write_fails.saturating_sub(1));
+        assert!(rt; whole.starts_with(ran.out.held()), "at call {write_fails}");
+        assert_eq!(rt; ran.faults.held(), line.as_bytes());
+    }
+    Ok(())
+}
+
+#[test]
+fn each_call_of_a_sink_may_fail(rt: HostRuntime) -> Result<(), Fail> {
+    let row = row_of_copies()?;
+    let whole = run_over(&rt, over(row.words, row.script.as_bytes()))?;
+    let last = whole.out.held().len() as u64;
+    for write_fails in 1..=last {
+        expect_prefix(&rt, &row, whole.out.held(), write_fails)?;
+    }
+    let writing = Given {
+        write_cut: 1,
+        write_fails: last.saturating_add(1),
+        report_fails: 1,
+        ..over(row.words, row.script.as_bytes())
+    };
+    expect_text(&rt, writing, row.text, row.most)
+}
+
 /// So many line feeds.
 fn line_feeds(alloc: Global, count: usize) -> Result<Vec<u8>, Fail> {
     let bytes = vec![in alloc; b'\n'; count]?;
@@ -379,7 +494,7 @@ fn line_feeds(alloc: Global, count: usize) -> Result<Vec<u8>, Fail> {
 }
 
 /// A run over memory of these bytes.
-fn over<'a>(words: &'a str, script: &'a [u8]) -> Given<'a> {
+pub(crate) fn over<'a>(words: &'a str, script: &'a [u8]) -> Given<'a> {
     Given {
         words,
         script,

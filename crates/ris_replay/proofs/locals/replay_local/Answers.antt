@@ -34,13 +34,33 @@ within-ok script specs ground r first mid now visits (Ok played) opening same ri
     (end-within script specs ground r played.logs played.lines first mid now opening same answered logs lines rise counted)
 within-ok script specs ground r first mid now visits (Err e) opening same rise counted rose answered logs lines told = tt
 
-pub returns-in_err-rounds-clause-rise : goal.returns-in_err-rounds-clause-rise
-returns-in_err-rounds-clause-rise g c = rises-ticked (g.M.Meter.ticks c.args.meter.now) (g.M.Meter.ticks c.start.new.meter) _ c.start.ensures.visits
+pub returns-in_err-rounds-clause-ticks : goal.returns-in_err-rounds-clause-ticks
+returns-in_err-rounds-clause-ticks g c =
+    let before = c.total-before.ensures in
+    let rose = rises-ticked (g.M.Meter.ticks c.args.meter.now) (g.M.Meter.ticks c.start.new.meter) _ c.start.ensures.visits (omega arith) in
+    rose.0
 
-pub returns-in_err-play_all-clause-rise : goal.returns-in_err-play_all-clause-rise
-returns-in_err-play_all-clause-rise g c =
-    rises-twice (g.M.Meter.ticks c.args.meter.now) (g.M.Meter.ticks c.start.new.meter) (g.M.Meter.ticks c.play_all.new.meter)
-    (rises-ticked (g.M.Meter.ticks c.args.meter.now) (g.M.Meter.ticks c.start.new.meter) _ c.start.ensures.visits) c.play_all.ensures.rise
+pub returns-in_err-rounds-clause-below : goal.returns-in_err-rounds-clause-below
+returns-in_err-rounds-clause-below g c =
+    let before = c.total-before.ensures in
+    let rose = rises-ticked (g.M.Meter.ticks c.args.meter.now) (g.M.Meter.ticks c.start.new.meter) _ c.start.ensures.visits (omega arith) in
+    rose.1
+
+pub returns-in_err-play_all-clause-ticks : goal.returns-in_err-play_all-clause-ticks
+returns-in_err-play_all-clause-ticks g c =
+    let before = c.total-before.ensures in
+    let both = rises-twice (g.M.Meter.ticks c.args.meter.now) (g.M.Meter.ticks c.start.new.meter) (g.M.Meter.ticks c.play_all.new.meter)
+    (rises-ticked (g.M.Meter.ticks c.args.meter.now) (g.M.Meter.ticks c.start.new.meter) _ c.start.ensures.visits) c.play_all.ensures.rise in
+    let rose = both (omega arith) in
+    rose.0
+
+pub returns-in_err-play_all-clause-below : goal.returns-in_err-play_all-clause-below
+returns-in_err-play_all-clause-below g c =
+    let before = c.total-before.ensures in
+    let both = rises-twice (g.M.Meter.ticks c.args.meter.now) (g.M.Meter.ticks c.start.new.meter) (g.M.Meter.ticks c.play_all.new.meter)
+    (rises-ticked (g.M.Meter.ticks c.args.meter.now) (g.M.Meter.ticks c.start.new.meter) _ c.start.ensures.visits) c.play_all.ensures.rise in
+    let rose = both (omega arith) in
+    rose.1
 
 pub overflow_sub-visits : goal.overflow_sub-visits
 overflow_sub-visits g c =
@@ -58,10 +78,21 @@ returns-clause-answered g c =
     c.in_ok-rounds.ensures.sessions (c.in_ok-play_all.ensures.keeps ground c.args.script.commands c.in_ok-rounds.ensures.stands) c.in_ok-play_all.ensures.done
     c.finish.ensures.logs c.finish.ensures.lines
 
-pub returns-clause-rise : goal.returns-clause-rise
-returns-clause-rise g c =
-    rises-twice (g.M.Meter.ticks c.args.meter.now) (g.M.Meter.ticks c.start.new.meter) (g.M.Meter.ticks c.play_all.new.meter)
-    (rises-ticked (g.M.Meter.ticks c.args.meter.now) (g.M.Meter.ticks c.start.new.meter) _ c.start.ensures.visits) c.play_all.ensures.rise
+pub returns-clause-ticks : goal.returns-clause-ticks
+returns-clause-ticks g c =
+    let before = c.total-before.ensures in
+    let both = rises-twice (g.M.Meter.ticks c.args.meter.now) (g.M.Meter.ticks c.start.new.meter) (g.M.Meter.ticks c.play_all.new.meter)
+    (rises-ticked (g.M.Meter.ticks c.args.meter.now) (g.M.Meter.ticks c.start.new.meter) _ c.start.ensures.visits) c.play_all.ensures.rise in
+    let rose = both (omega arith) in
+    rose.0
+
+pub returns-clause-below : goal.returns-clause-below
+returns-clause-below g c =
+    let before = c.total-before.ensures in
+    let both = rises-twice (g.M.Meter.ticks c.args.meter.now) (g.M.Meter.ticks c.start.new.meter) (g.M.Meter.ticks c.play_all.new.meter)
+    (rises-ticked (g.M.Meter.ticks c.args.meter.now) (g.M.Meter.ticks c.start.new.meter) _ c.start.ensures.visits) c.play_all.ensures.rise in
+    let rose = both (omega arith) in
+    rose.1
 
 pub returns-clause-within : goal.returns-clause-within
 returns-clause-within g c =

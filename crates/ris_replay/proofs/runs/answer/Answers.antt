@@ -1,4 +1,3 @@
-use Rattle.std.proofs.Common.{rules}
 use Rattle.ris_base.specs.Status.{stream_of}
 use Rattle.ris_replay.proofs.JobFacts.{bytes-few, taken-fit}
 use Rattle.ris_replay.proofs.runs.answer.Goals as goal
