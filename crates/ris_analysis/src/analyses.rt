@@ -46,13 +46,13 @@ impl Model for Analyses {
 }
 
 impl Analyses {
-    ghost use Rattle.ris_analysis.specs.AnyForest.{cells_of, suits_of};
+    ghost use Rattle.ris_analysis.specs.AnyForest.{cells_of};
     ghost use Rattle.ris_analysis.specs.Analyses.{specs_of, forests_of, all_with_rows, committed_all, AllSuit, ArePlainSpecs, AreAnalyses, CanCommit, HasRoom, IsDueFor, IsGrown};
 
     /// The forests of one to four analyses on a graph, all right. The root of an analysis of components is 0.
     ///
     /// The meter ticks at most so often as the reach of the start says, also where `NoMemory` comes. It takes time of the
-    /// graph's triples times a logarithm for each analysis, and looks once at each vertex number below the limit.
+    /// graph's triples times a logarithm for each analysis, and looks once at each vertex number of the graph's tables.
     pub fn start<M: Meter>(
         alloc: Global,
         graph: &Graph<M>,
@@ -70,7 +70,7 @@ impl Analyses {
         ensures visits { (p : PlainGraph) → IsOf graph.now p → IsRise (M.ticks meter.old) (M.ticks meter.new) (start_reach p specs.now) }
         ensures counted { (k : ℕ) × (M.ticks meter.new ≡ ticked (M.ticks meter.old) k) }
     {
-        let size = lists::size_of(graph);
+        let size = graph.size();
         let forests = lists::first_forests(alloc, graph, specs, size, meter)?;
         Ok(Analyses { alloc, forests })
     }

@@ -13,26 +13,10 @@ ghost use Rattle.ris_analysis.specs.Analyses.{specs_of, forests_of, committed_al
 ghost use Rattle.ris_analysis.specs.Repairing.{moved_in, IsRepaired};
 
 use crate::kinds::AnyForest;
-use ris_base::{Meter, NoMemory, Specs, VERTEX_LIMIT, Vertices};
+use ris_base::{Meter, NoMemory, Specs, Vertices};
 use ris_forest::{Delta, Deltas};
 use ris_graph::{Graph, Net};
 use std::alloc::Global;
-
-/// One more than the greatest vertex of a graph, or 0 where it has none. It looks at the vertex numbers below the limit,
-/// the greatest first.
-pub fn size_of<M>(graph: &Graph<M>) -> u32
-    ensures room { (p : PlainGraph) → IsOf graph.now p → (x : ℕ) → IsTrue (vertex_in graph.now x) → x < result }
-    ensures few { result ≤ vertex_limit }
-{
-    let mut size = VERTEX_LIMIT as u32;
-    while size > 0 {
-        if graph.has_vertex(size as u64 - 1) {
-            return size;
-        }
-        size -= 1;
-    }
-    size
-}
 
 /// The least number that each of the vertices is below.
 pub fn bound(vertices: &Vertices) -> u64

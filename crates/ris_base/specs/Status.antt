@@ -179,8 +179,8 @@ abbrev pub written : Job → Transcript → Bytes
 written (Replay threads workers specs) t = spelling t
 written (Demo seed size workers) t = line_text (summary_fields t.summary)
 
--- the text is what a job writes of a transcript of its script with its analyses, whose last number is the visits, of which it may
--- take so many
+-- the text is what a job writes of a transcript of its script with its analyses, whose last number is the visits; they are no more
+-- than the script may take
 pub record IsTextOf (program : Program) (job : Job) (script : Script) (visits : ℕ) (text : Bytes) : Type 0 where
   pub transcript : Transcript
   pub right : IsTranscriptOf (setup_of script (specs_of job)) script.commands transcript

@@ -5,7 +5,9 @@ ghost use Rattle.ris_base.specs.Limits.{vertex_limit, greatest_of};
 ghost use Rattle.ris_base.specs.Lists.{numbers_below};
 ghost use Rattle.ris_rows.specs.Neighbours.{IsAscending};
 
+use crate::degrees::{Degree, degrees};
 use crate::outs::{OutRows, STRIPES};
+use crate::sorting;
 use crate::tables::RowTable;
 use ris_base::{Format, NoMemory, Triple, Triples};
 use ris_rows::Cursor;
@@ -44,7 +46,9 @@ impl<M> Graph<M> {
     ghost use Rattle.ris_graph.specs.Appending.{CanAppend, appended};
 
     /// The graph that has the vertices below `vertices`, which are at most 4,194,304, and the triples of `base`, each
-    /// time that one stands there a copy. It sorts the triples once, and fills each row in ascending order.
+    /// time that one stands there a copy. It sorts a copy of the triples, in linear time by source and then those of each
+    /// source in n log n, and fills each row in ascending order, in linear time. A row takes room for its neighbours
+    /// at once.
     pub fn start(
         alloc: Global,
         vertices: u32,
@@ -56,8 +60,9 @@ impl<M> Graph<M> {
         requires weights { All (λ t. t.weight ≤ greatest_of format) base.now }
         ensures { IfOk result (λ g. IsOf g (record { format = format; vertices = numbers_below vertices; triples = base.now })) }
     {
-        let sorted = sorted(alloc, base)?;
+        let sorted = sorting::sorted(alloc, vertices, base)?;
         let mut graph = Graph::edgeless(alloc, vertices, format)?;
+        graph.reserve_rows(&degrees(alloc, vertices, &sorted)?)?;
         for t in &sorted {
             graph.append(*t)?;
         }
@@ -83,6 +88,21 @@ impl<M> Graph<M> {
         })
     }
 
+    /// Makes room in the two rows of each vertex for as many neighbours as its degree has. No row loses room, also where
+    /// `NoMemory` comes.
+    fn reserve_rows(&mut self, degrees: &[Degree]) -> Result<(), NoMemory>
+        ensures { HasRoomOf self.old self.new }
+    {
+        for x in 0..self.size() {
+            if let Some(degree) = degrees.get(x as usize)
+                && self.has_vertex(u64::from(x))
+            {
+                self.reserve(x, degree.outs, x, degree.ins)?;
+            }
+        }
+        Ok(())
+    }
+
     /// One copy more of a triple, in constant time where no neighbour stands past it in its two rows.
     fn append(&mut self, t: Triple) -> Result<(), NoMemory>
         requires { CanAppend self.old t }
@@ -100,6 +120,16 @@ impl<M> Graph<M> {
         ensures of { (p : PlainGraph) × IsOf self.now p }
     {
         self.format
+    }
+
+    /// How many vertex numbers the tables have room for, which is at most 4,194,304: each vertex is below it. Constant
+    /// time.
+    pub fn size(&self) -> u32
+        ensures size { result ≡ length self.now.present }
+        ensures below { (x : ℕ) → IsTrue (vertex_in self.now x) → x < result }
+        ensures few { result ≤ vertex_limit }
+    {
+        self.present.len() as u32
     }
 
     /// The number of copies of a triple. A binary search.
@@ -144,19 +174,19 @@ impl<M> Graph<M> {
         ensures in_room { OnOk result (n ≤ (in_row self.new t.target).spare) }
         ensures same { HasRoomOf self.old self.new }
     {
-        self.outs.reserve(t.source, n)?;
-        self.ins.reserve(t.target as usize, n)
+        self.reserve(t.source, n, t.target, n)
     }
-}
 
-/// A sorted copy of triples: by source, then by target, then by weight.
-fn sorted(alloc: Global, triples: &Triples) -> Result<Vec<Triple>, NoMemory>
-    ensures { IfOk result (λ v. IsPermutation triples.now v.items) }
-{
-    let mut sorted = Vec::with_capacity(alloc, triples.len() as usize)?;
-    for k in 0..triples.len() {
-        sorted.push(*triples.at(k))?;
+    /// Makes room for `outs` inserts in the out row of `source`, and for `ins` in the in row of `target`, as `make_room`
+    /// does.
+    fn reserve(&mut self, source: u32, outs: u64, target: u32, ins: u64) -> Result<(), NoMemory>
+        requires source { IsTrue (vertex_in self.old source) }
+        requires target { IsTrue (vertex_in self.old target) }
+        ensures out_room { OnOk result (outs ≤ (out_row self.new source).spare) }
+        ensures in_room { OnOk result (ins ≤ (in_row self.new target).spare) }
+        ensures same { HasRoomOf self.old self.new }
+    {
+        self.outs.reserve(source, outs)?;
+        self.ins.reserve(target as usize, ins)
     }
-    sorted.sort_unstable_by_key(|t| (t.source, t.target, t.weight));
-    Ok(sorted)
 }

@@ -2,6 +2,7 @@
 #![tactic(auto)]
 
 mod commits;
+mod degrees;
 mod graphs;
 mod jobs;
 mod listings;
@@ -10,6 +11,7 @@ mod nets;
 mod outs;
 mod rooms;
 mod settles;
+mod sorting;
 mod stripes;
 mod tables;
 

@@ -22,7 +22,7 @@ use Rattle.ris_graph.specs.declared.nets.NetTriple.{NetTriple}
 use Rattle.ris_repair.specs.Changes.{is_waiting, standing_value, value_or, IsImproved, IsSame}
 use Rattle.ris_repair.specs.Crossing.{crosses, crossed}
 use Rattle.ris_repair.specs.Stages.{IsPrepared, IsUnadded, AreAdded, unadded, unpulled}
-use Rattle.ris_repair.specs.declared.frontiers.Change.{Change}
+use Rattle.ris_repair.specs.declared.stores.Change.{Change}
 use Rattle.ris_repair.proofs.CrossLemmas.{across}
 use Rattle.ris_repair.proofs.PullLemmas.{prepared_less}
 

@@ -17,7 +17,7 @@ use Rattle.ris_algo.proofs.Offers.{improves-number, improves-no_more}
 use Rattle.ris_repair.specs.Changes.{state_of, value_or, is_number, is_settled, is_waiting, is_better, standing_value, IsImproved, IsSame}
 use Rattle.ris_repair.specs.Crossing.{crosses, crossed}
 use Rattle.ris_repair.specs.Stages.{IsPrepared}
-use Rattle.ris_repair.specs.declared.frontiers.Change.{Change}
+use Rattle.ris_repair.specs.declared.stores.Change.{Change}
 use Rattle.ris_repair.proofs.OfferLemmas.{better_parts, other, offered_state, carried_offer, kept_same}
 
 -- what isn't a number improves nothing

@@ -1,9 +1,12 @@
 pub mod AddLemmas
 pub mod CrossLemmas
+pub mod ListedLemmas
+pub mod LocalLemmas
 pub mod MarkLemmas
 pub mod OfferLemmas
 pub mod PullLemmas
 pub mod PushLemmas
+pub mod QueueLemmas
 pub mod RepairLemmas
 pub mod RiseLemmas
 pub mod RowLemmas

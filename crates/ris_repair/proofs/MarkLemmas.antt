@@ -1,8 +1,9 @@
 -- Vertices that begin anew.
-use Rattle.std.proofs.Common.{◌≡◌, ◌↔◌, ◌⊎◌, ℕ, ◌+◌, ◌<◌, Bool, true, false, not, ◌&&◌, ◌||◌, ◌==◌, IsTrue, if◌then◌else◌, inl, inr, List, [], ◌∷◌, length, take, get_or, ◌≤◌, Option, Some, None, refl, sym, subst, ap, ◌∙◌}
+use Rattle.std.proofs.Common.{◌≡◌, ◌↔◌, ◌⊎◌, ℕ, ◌+◌, ◌<◌, Bool, true, false, not, ◌&&◌, ◌||◌, ◌==◌, nat_lt, IsTrue, if◌then◌else◌, inl, inr, List, [], length, take, get_or, ◌≤◌, Option, Some, None, arith, refl, sym, subst, ap, ◌∙◌}
 use Rattle.std.specs.List.{Contains, list_any}
-use Rattle.std.specs.List.Sorted.{IsPermutation}
-use Rattle.std.proofs.lemmas.Bool.{cases_Bool, cases_eq, cases_lt, eqb-true, eq-eqb, ne_eqb, both_ways as not_both}
+use Rattle.std.specs.Option.{IsSome}
+use Rattle.std.proofs.lemmas.Bool.{cases_Bool, cases_eq, cases_lt, eqb-true, eq-eqb, ne_eqb, lt-ltb, both_ways as not_both}
+use Rattle.std.proofs.lemmas.Bool.Decides.{nat_tests}
 use Rattle.std.proofs.lemmas.List.{get_or_past}
 use Rattle.std.proofs.lemmas.List.Folds.{list_any_more}
 use Rattle.ris_base.specs.Analysis.{start}
@@ -13,7 +14,6 @@ use Rattle.ris_base.specs.Limits.{vertex_limit}
 use Rattle.ris_base.specs.Requests.{entered}
 use Rattle.ris_base.specs.Value.{IsValue}
 use Rattle.ris_base.specs.declared.graphs.PlainGraph.{PlainGraph}
-use Rattle.ris_base.specs.declared.analyses.Kind.{Kind}
 use Rattle.ris_base.specs.declared.analyses.Spec.{Spec}
 use Rattle.ris_base.specs.declared.analyses.Value.{Value}
 use Rattle.ris_base.specs.declared.analyses.Value.TheVariants.{Absent, Num}
@@ -32,10 +32,8 @@ use Rattle.ris_forest.specs.Cells.{Cell, cell_at, absent_cell, forest_of}
 use Rattle.ris_repair.specs.Changes.{state_of, value_or, parent_or, is_settled, is_waiting, is_number, AreQueued}
 use Rattle.ris_repair.specs.Due.{IsDue}
 use Rattle.ris_repair.specs.Marks.{marked, started, among, AreMarked}
-use Rattle.ris_repair.specs.Priority.{priority_of}
 use Rattle.ris_repair.specs.Stages.{IsPrepared, unpulled}
-use Rattle.ris_repair.specs.declared.frontiers.Change.{Change}
-use Rattle.ris_repair.proofs.OfferLemmas.{offered_queued}
+use Rattle.ris_repair.specs.declared.stores.Change.{Change}
 
 or_true : (b : Bool) → (b || true) ≡ true
 or_true true = refl
@@ -44,6 +42,12 @@ or_true false = refl
 or_false : (b : Bool) → (b || false) ≡ b
 or_false true = refl
 or_false false = refl
+
+below_more_other : (x z : ℕ) → ¬ (x ≡ z) → nat_lt z (x + 1) ≡ nat_lt z x
+below_more_other x z ne = elim (cases_lt z x) [
+  | inl lt ↦ lt-ltb z (x + 1) (omega arith) ∙ sym (lt-ltb z x lt)
+  | inr le ↦ grind (arith, nat_tests)
+]
 
 -- one vertex more begins anew
 pub marks_step : (graph : GraphView) (start : ℕ → Option ℕ) (test test2 : ℕ → Bool) (old new : ℕ → Option Change) (x : ℕ) → AreMarked graph start test old
@@ -64,22 +68,33 @@ marks_step graph start test test2 old new x before here others more z = elim (ca
 pub among-more : (xs : List ℕ) (k x : ℕ) → k < length xs → get_or xs k x ≡ x → (z : ℕ) → among (take (k + 1) xs) z ≡ (among (take k xs) z || (x == z))
 among-more xs k x lt at z = list_any_more (λ y. y == z) xs k x lt ∙ ap (λ (y : ℕ). list_any (λ w. w == z) (take k xs) || (y == z)) at
 
+-- one vertex number more, of a vertex of the graph
+pub present_more : (graph : GraphView) (x : ℕ) → vertex_in graph x ≡ true
+    → (z : ℕ) → (vertex_in graph z && nat_lt z (x + 1)) ≡ ((vertex_in graph z && nat_lt z x) || (x == z))
+present_more graph x there z = elim (cases_eq x z) [
+  | inl e ↦
+      let here : vertex_in graph z ≡ true = ap (vertex_in graph) (sym e) ∙ there in
+      let less : nat_lt z (x + 1) ≡ true = lt-ltb z (x + 1) (omega arith) in
+      ap (λ (b : Bool). b && nat_lt z (x + 1)) here ∙ less ∙ sym (ap (λ (b : Bool). (vertex_in graph z && nat_lt z x) || b) (eq-eqb x z e) ∙ or_true (vertex_in graph z && nat_lt z x))
+  | inr ne ↦
+      ap (λ (b : Bool). vertex_in graph z && b) (below_more_other x z ne)
+      ∙ sym (ap (λ (b : Bool). (vertex_in graph z && nat_lt z x) || b) (ne_eqb x z ne) ∙ or_false (vertex_in graph z && nat_lt z x))
+]
+
+-- and of another
+pub missing_more : (graph : GraphView) (x : ℕ) → vertex_in graph x ≡ false → (z : ℕ) → (vertex_in graph z && nat_lt z (x + 1)) ≡ (vertex_in graph z && nat_lt z x)
+missing_more graph x missing z = elim (cases_eq x z) [
+  | inl e ↦
+      let off : vertex_in graph z ≡ false = ap (vertex_in graph) (sym e) ∙ missing in
+      ap (λ (b : Bool). b && nat_lt z (x + 1)) off ∙ sym (ap (λ (b : Bool). b && nat_lt z x) off)
+  | inr ne ↦ ap (λ (b : Bool). vertex_in graph z && b) (below_more_other x z ne)
+]
+
 -- the same vertices by another test
 pub marks_same : (graph : GraphView) (start : ℕ → Option ℕ) (test test2 : ℕ → Bool) (changes : ℕ → Option Change) → AreMarked graph start test changes
     → ((z : ℕ) → test2 z ≡ test z) → AreMarked graph start test2 changes
 marks_same graph start test test2 changes before same z =
     before z ∙ ap (λ (b : Bool). if b then Some (marked graph start z) else None) (sym (same z))
-
--- a vertex that begins with a number waits in the queue
-pub marked_queued : (kind : Kind) (F : Forest) (old new : ℕ → Option Change) (queue queue2 : List (ℕ × ℕ)) (x number best : ℕ) (v : Value) → AreQueued kind old queue
-    → new x ≡ Some (record { value = v; parent = parent.None; settled = false }) → v ≡ Num number → ((z : ℕ) → (x == z) ≡ false → new z ≡ old z)
-    → IsPermutation ((best, x) ∷ queue) queue2 → best ≡ priority_of kind number → AreQueued kind new queue2
-marked_queued kind F old new queue queue2 x number best v before here is others items same =
-    offered_queued kind F old new queue queue2 x number parent.None (record {
-      here = here ∙ ap (λ (w : Value). Some (record { value = w; parent = parent.None; settled = false })) is;
-      others = others;
-      items = subst (λ (k : ℕ). IsPermutation ((k, x) ∷ queue) queue2) same items;
-    }) before
 
 -- What is marked
 
@@ -196,6 +211,15 @@ module _ (graph : GraphView) (spec : Spec) (cells : List Cell) (xs : List ℕ) (
 
 -- Before the pull
 
+-- what changed stands in the list, and what stands there changed
+pub marks_listed : (graph : GraphView) (begin : ℕ → Option ℕ) (xs : List ℕ) (changes : ℕ → Option Change) → AreMarked graph begin (among xs) changes
+    → (x : ℕ) (c : Change) → changes x ≡ Some c → Contains xs x
+marks_listed graph begin xs changes marks x c is = among-Contains xs x (marks_passing graph begin (among xs) changes marks x c is)
+
+pub listed_marks : (graph : GraphView) (begin : ℕ → Option ℕ) (xs : List ℕ) (changes : ℕ → Option Change) → AreMarked graph begin (among xs) changes
+    → (x : ℕ) → Contains xs x → IsSome (changes x)
+listed_marks graph begin xs changes marks x at = rw (marks_on graph begin (among xs) changes marks x (Contains-among xs x at)) refl
+
 -- the fallen vertices begin anew, and the others stand
 pub prepared : (graph : GraphView) (spec : Spec) (cells : List Cell) (xs : List ℕ) (effect : Net) (p : PlainGraph) (parts : List Update) (begin : ℕ → Option ℕ)
     (changes : ℕ → Option Change) (queue : List (ℕ × ℕ))
@@ -214,7 +238,7 @@ prepared graph spec cells xs effect p parts begin changes queue due starts marks
           | inl on ↦ out (inl (among-Contains xs x on))
           | inr missing ↦ out (inr (inr missing))
         ]));
-    due = λ x c is. inl (among-Contains xs x (marks_passing graph begin (among xs) changes marks x c is));
+    due = λ x c is. inl (marks_listed graph begin xs changes marks x c is);
     below = λ x c is. fallen_limited graph spec cells xs effect p parts due x (is_fallen x (marks_passing graph begin (among xs) changes marks x c is));
     queued = queued;
   };

@@ -24,7 +24,7 @@ use Rattle.ris_algo.proofs.Offers.{offers, better-from_beats}
 use Rattle.ris_repair.specs.Changes.{state_of, value_or, parent_or, is_settled, is_waiting, is_better, waiting_number, IsImproved, IsSame, IsGain, AreDue, AreBelow, AreQueued}
 use Rattle.ris_repair.specs.Priority.{priority_of}
 use Rattle.ris_repair.specs.Stages.{IsCarried}
-use Rattle.ris_repair.specs.declared.frontiers.Change.{Change}
+use Rattle.ris_repair.specs.declared.stores.Change.{Change}
 
 -- a test that fails with `not`
 pub not-true : (b : Bool) → not b ≡ true → b ≡ false
@@ -77,7 +77,7 @@ module _ (kind : Kind) (F : Forest) (old new : ℕ → Option Change) (queue que
   ]
 
   -- each vertex that waits stays in the queue
-  pub offered_queued : AreQueued kind old queue → AreQueued kind new queue2
+  offered_queued : AreQueued kind old queue → AreQueued kind new queue2
   offered_queued before x d h =
       Contains-permutation ((priority_of kind number, y) ∷ queue) queue2 (priority_of kind d, x) i.items
       (elim (cases_eq y x) [

@@ -18,7 +18,7 @@ use Rattle.ris_repair.specs.Changes.{state_of, is_waiting, standing_value, value
 use Rattle.ris_repair.specs.Crossing.{crosses, crossed}
 use Rattle.ris_repair.specs.Rows.{IsOrigin, triple_of, origins_of}
 use Rattle.ris_repair.specs.Stages.{IsPrepared, unpulled}
-use Rattle.ris_repair.specs.declared.frontiers.Change.{Change}
+use Rattle.ris_repair.specs.declared.stores.Change.{Change}
 use Rattle.ris_repair.proofs.CrossLemmas.{across}
 use Rattle.ris_repair.proofs.RowLemmas.{origins_whole}
 

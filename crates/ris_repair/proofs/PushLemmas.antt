@@ -24,7 +24,7 @@ use Rattle.ris_graph.specs.Ticks.{IsRise}
 use Rattle.ris_repair.specs.Changes.{state_of, value_or, is_settled, is_better, IsImproved, IsSame, IsNext, IsGain, KeepsSettled, AreQueued}
 use Rattle.ris_repair.specs.Rows.{IsEnd, triple_of, ends_of}
 use Rattle.ris_repair.specs.Stages.{IsCarried, IsPushing, PushesOn, Covers}
-use Rattle.ris_repair.specs.declared.frontiers.Change.{Change}
+use Rattle.ris_repair.specs.declared.stores.Change.{Change}
 use Rattle.ris_repair.proofs.OfferLemmas.{better_parts, offered_state, carried_offer, kept_same}
 use Rattle.ris_repair.proofs.RiseLemmas.{rise_within}
 use Rattle.ris_repair.proofs.RowLemmas.{ends_whole}

@@ -1,6 +1,7 @@
 -- What the changes make of a forest once none waits, and how many visits that took.
 use Rattle.std.proofs.Common.{◌≡◌, ◌≢◌, ◌↔◌, ◌⊎◌, ℕ, ◌+◌, ◌<◌, Bool, true, false, ◌&&◌, nat_lt, IsTrue, inl, inr, List, [], ◌∷◌, ◌++◌, length, Option, arith, refl, sym, subst, ap, ◌∙◌}
 use Rattle.std.specs.List.{All, Contains, sum_by}
+use Rattle.std.specs.Option.{IsSome}
 use Rattle.std.proofs.lemmas.Bool.{cases_Bool, and_parts, lt-ltb, false_from_ne_true, both_ways as not_both}
 use Rattle.std.proofs.lemmas.List.Elements.{All-contains}
 use Rattle.std.proofs.lemmas.List.Sums.{sum_by-cons}
@@ -14,6 +15,7 @@ use Rattle.ris_base.specs.Safe.{beats}
 use Rattle.ris_base.specs.Value.{IsValue, Moves}
 use Rattle.ris_base.specs.Walk.{both_ways}
 use Rattle.ris_base.specs.declared.graphs.PlainGraph.{PlainGraph}
+use Rattle.ris_base.specs.declared.graphs.Triple.{Triple}
 use Rattle.ris_base.specs.declared.analyses.Spec.{Spec}
 use Rattle.ris_base.specs.declared.analyses.Value.{Value}
 use Rattle.ris_base.specs.declared.analyses.Value.TheVariants.{Absent, Unreached, Num}
@@ -36,14 +38,15 @@ use Rattle.ris_graph.specs.Ticks.{IsRise}
 use Rattle.ris_forest.specs.Cells.{Cell, forest_of, IsRooted, IsSmall, IsParentBelow}
 use Rattle.ris_forest.specs.Commits.{with_rows, IsRowBelow}
 use Rattle.ris_forest.specs.declared.deltas.DeltaRow.{DeltaRow}
-use Rattle.ris_repair.specs.Changes.{state_of, is_waiting, IsGain, NoneWaits, AreQueued}
+use Rattle.ris_repair.specs.Changes.{state_of, is_waiting, IsGain, NoneWaits, AreQueued, AreQueuedBut}
 use Rattle.ris_repair.specs.Due.{IsDue}
 use Rattle.ris_repair.specs.Marks.{among, AreMarked}
 use Rattle.ris_repair.specs.Rows.{origin_count}
 use Rattle.ris_repair.specs.Stages.{IsPrepared, IsPushing, IsRowOf, AreRowsOf, AreRowsDue, Covers, unpulled, unadded}
-use Rattle.ris_repair.specs.declared.frontiers.Change.{Change}
+use Rattle.ris_repair.specs.declared.stores.Change.{Change}
 use Rattle.ris_repair.proofs.AddLemmas.{unadded_from_pull, unadded_none}
-use Rattle.ris_repair.proofs.MarkLemmas.{among-Contains, Contains-among, prepared}
+use Rattle.ris_repair.proofs.MarkLemmas.{among-Contains, Contains-among, marks_listed, listed_marks, prepared}
+use Rattle.ris_repair.proofs.QueueLemmas.{queued_all, queued_items, waiting_items, waits_listed}
 use Rattle.ris_repair.proofs.RiseLemmas.{rise_more, rise_none}
 use Rattle.ris_repair.proofs.RowLemmas.{origin_count-pull}
 use Rattle.ris_repair.proofs.TableLemmas.{rows_forest, row_value, row_parent}
@@ -216,20 +219,34 @@ module _ (p : PlainGraph) (spec : Spec) (F : Forest) (parts : List Update) (xs :
   reach_pull graph both a b of ways one =
       reach_rise graph both a b b of ways one (rise_none b (sum_by (push (entered p parts) spec) (reach.fallen ++ reach.improved)))
 
+-- another queue that has each vertex that waits
+requeued : (g : PlainGraph) (spec : Spec) (F : Forest) (n : ℕ) (fallen : List ℕ) (changes : ℕ → Option Change) (queue queue2 : List (ℕ × ℕ))
+    (todo : Triple → ℕ → ℕ → Type 0) → IsPrepared g spec F n fallen changes queue todo → AreQueued spec.kind changes queue2 → IsPrepared g spec F n fallen changes queue2 todo
+requeued g spec F n fallen changes queue queue2 todo P queued = record {
+  carried = record { inside = P.carried.inside; spreading = P.carried.spreading; due = P.carried.due; below = P.carried.below; queued = queued };
+  fresh = P.fresh;
+}
+
 -- the whole way to the push
 pub pushed_from : (graph : GraphView) (spec : Spec) (cells : List Cell) (xs : List ℕ) (effect : Net) (p : PlainGraph) (parts : List Update) (begin : ℕ → Option ℕ)
     (ch0 ch1 ch2 : ℕ → Option Change) (q0 q1 q2 : List (ℕ × ℕ))
     → IsDue graph spec cells xs effect p parts
-    → ((x : ℕ) → begin x ≡ start (entered p parts) spec x) → AreMarked graph begin (among xs) ch0 → AreQueued spec.kind ch0 q0
-    → (IsPrepared (entered p parts) spec (forest_of cells) vertex_limit xs ch0 q0 (unpulled p 0 [] xs)
-    → IsPrepared (entered p parts) spec (forest_of cells) vertex_limit xs ch1 q1 (unpulled p 0 [] []))
+    → ((x : ℕ) → begin x ≡ start (entered p parts) spec x) → AreMarked graph begin (among xs) ch0
+    → (AreQueuedBut spec.kind xs ch0 q0 → AreQueuedBut spec.kind [] ch1 q1)
+    → ((queue : List (ℕ × ℕ)) → ((x : ℕ) → Contains xs x → IsSome (ch0 x)) → IsPrepared (entered p parts) spec (forest_of cells) vertex_limit xs ch0 queue (unpulled p 0 [] xs)
+    → (after : List (ℕ × ℕ)) × IsPrepared (entered p parts) spec (forest_of cells) vertex_limit xs ch1 after (unpulled p 0 [] []))
     → (IsPrepared (entered p parts) spec (forest_of cells) vertex_limit xs ch1 q1 (unadded effect.triples)
     → IsPrepared (entered p parts) spec (forest_of cells) vertex_limit xs ch2 q2 (unadded []))
     → IsPrepared (entered p parts) spec (forest_of cells) vertex_limit xs ch2 q2 nothing
 pushed_from graph spec cells xs effect p parts begin ch0 ch1 ch2 q0 q1 q2 due starts marks queued pull_on add_on =
+    let listed = marks_listed graph begin xs ch0 marks in
+    let items = waiting_items spec.kind ch0 xs in
+    let pulled = pull_on items (listed_marks graph begin xs ch0 marks)
+    (prepared graph spec cells xs effect p parts begin ch0 items due starts marks (queued_items spec.kind ch0 xs listed)) in
     unadded_none (entered p parts) spec (forest_of cells) vertex_limit xs ch2 q2
     (add_on (unadded_from_pull p parts effect spec (forest_of cells) vertex_limit xs ch1 q1 due.net
-    (pull_on (prepared graph spec cells xs effect p parts begin ch0 q0 due starts marks queued))))
+    (requeued (entered p parts) spec (forest_of cells) vertex_limit xs ch1 pulled.0 q1 (unpulled p 0 [] []) pulled.1
+    (queued_all spec.kind ch1 q1 (queued (λ x d waits. inl (waits_listed spec.kind ch0 xs listed x d waits)))))))
 
 -- the vertices of the graph have each vertex that may be settled
 pub vertices_cover : (g : PlainGraph) (spec : Spec) (F : Forest) (xs : List ℕ) → Covers g spec F xs g.vertices

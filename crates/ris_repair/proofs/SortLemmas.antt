@@ -11,7 +11,7 @@ use Rattle.ris_base.specs.Forest.{Forest}
 use Rattle.ris_base.proofs.ListLemmas.{Contains-none, Contains-first, Contains-rest, Contains-cases}
 use Rattle.ris_forest.specs.declared.deltas.DeltaRow.{DeltaRow}
 use Rattle.ris_repair.specs.Stages.{IsRowOf, AreRowsOf}
-use Rattle.ris_repair.specs.declared.frontiers.Change.{Change}
+use Rattle.ris_repair.specs.declared.stores.Change.{Change}
 
 -- the vertices of rows
 abbrev pub vertices_of : List DeltaRow → List ℕ

@@ -12,7 +12,7 @@ use Rattle.ris_forest.specs.Commits.{with_row, with_rows}
 use Rattle.ris_forest.specs.declared.deltas.DeltaRow.{DeltaRow}
 use Rattle.ris_repair.specs.Changes.{state_of, value_or, parent_or}
 use Rattle.ris_repair.specs.Stages.{IsRowOf, AreRowsOf}
-use Rattle.ris_repair.specs.declared.frontiers.Change.{Change}
+use Rattle.ris_repair.specs.declared.stores.Change.{Change}
 
 -- a forest has this value and this parent at x
 record HasAt (F : Forest) (x : ℕ) (v : Value) (p : Parent) : Type 0 where

@@ -1,5 +1,5 @@
 -- What is left in a queue once its best item is taken, and what the vertex that was taken says.
-use Rattle.std.proofs.Common.{◌≡◌, ℕ, ◌^◌, ◌<◌, ◌≤◌, Bool, true, false, not, ◌&&◌, if◌then◌else◌, inl, inr, List, ◌∷◌, Option, Some, None, arith, refl, sym, subst, ap, ◌∙◌}
+use Rattle.std.proofs.Common.{◌≡◌, ℕ, ◌^◌, ◌<◌, ◌≤◌, Bool, true, false, not, ◌&&◌, ◌==◌, if◌then◌else◌, inl, inr, List, ◌∷◌, Option, Some, None, arith, refl, sym, subst, ap, ◌∙◌}
 use Rattle.std.specs.List.{All}
 use Rattle.std.specs.List.Sorted.{IsPermutation}
 use Rattle.std.proofs.lemmas.Bool.{cases_eq, ne_eqb}
@@ -17,7 +17,7 @@ use Rattle.ris_base.proofs.ListLemmas.{Contains-cases}
 use Rattle.ris_algo.specs.Spreading.{IsTakenFrom}
 use Rattle.ris_repair.specs.Priority.{priority_of}
 use Rattle.ris_repair.specs.Changes.{AreQueued, IsSettled, IsNext, state_of, value_or, parent_or, is_settled, is_waiting, is_number, number_of, waiting_number, settled_change, AreBelow}
-use Rattle.ris_repair.specs.declared.frontiers.Change.{Change}
+use Rattle.ris_repair.specs.declared.stores.Change.{Change}
 
 -- The queue
 
@@ -55,6 +55,13 @@ next-from kind old new queue rest best v c queued items settled most was e = rec
   best = λ x d h. subst (λ (n : ℕ). priority_of kind d ≤ n) (sym e)
       (All-contains (λ (item : ℕ × ℕ). item.0 ≤ best) rest (priority_of kind d, x) most (queued-settled kind old new queue rest best v queued items settled x d h));
 }
+
+-- a table that is the same at a vertex and elsewhere
+pub same_at : (old new : ℕ → Option Change) (v : ℕ) → new v ≡ old v → ((x : ℕ) → (v == x) ≡ false → new x ≡ old x) → (x : ℕ) → new x ≡ old x
+same_at old new v here others x = elim (cases_eq v x) [
+  | inl e ↦ subst (λ (k : ℕ). new k ≡ old k) e here
+  | inr ne ↦ others x (ne_eqb v x ne)
+]
 
 -- a number of no greater priority is no better
 pub ranked : (kind : Kind) (d c : ℕ) → c < 2 ^ 64 → priority_of kind d ≤ priority_of kind c → better kind d c ≡ false

@@ -1,5 +1,5 @@
 -- What a table of changes says.
-use Rattle.std.specs.Prelude.{◌≡◌, ◌⊎◌, ℕ, ◌<◌, ◌≤◌, Bool, true, false, not, ◌&&◌, ◌==◌, if◌then◌else◌, List, ◌∷◌, Option, Some, None, IsPermutation}
+use Rattle.std.specs.Prelude.{◌≡◌, ◌≢◌, ◌⊎◌, ℕ, ◌<◌, ◌≤◌, Bool, true, false, not, ◌&&◌, ◌==◌, if◌then◌else◌, List, ◌∷◌, Option, Some, None, IsPermutation}
 use Rattle.std.specs.List.{Contains}
 use Rattle.ris_base.specs.Forest.{Forest}
 use Rattle.ris_base.specs.Safe.{beats}
@@ -9,7 +9,7 @@ use Rattle.ris_base.specs.declared.analyses.Value.TheVariants.{Absent, Unreached
 use Rattle.ris_base.specs.declared.forests.Parent.{Parent}
 use Rattle.ris_algo.specs.Spreading.{State}
 use Rattle.ris_repair.specs.Priority.{priority_of}
-use Rattle.ris_repair.specs.declared.frontiers.Change.{Change}
+use Rattle.ris_repair.specs.declared.stores.Change.{Change}
 
 -- the value of a change, else this one
 abbrev pub value_or : Value → Option Change → Value
@@ -105,6 +105,24 @@ settled_change (Some c) = Some (record c { settled = true })
 -- each vertex that waits stands in the queue with its number's priority
 abbrev pub AreQueued : Kind → (ℕ → Option Change) → List (ℕ × ℕ) → Type 0
 AreQueued kind changes queue = (x d : ℕ) → waiting_number (changes x) ≡ Some d → Contains queue (priority_of kind d, x)
+
+-- each vertex that waits stands in the list, or in the queue with its number's priority
+abbrev pub AreQueuedBut : Kind → List ℕ → (ℕ → Option Change) → List (ℕ × ℕ) → Type 0
+AreQueuedBut kind xs changes queue = (x d : ℕ) → waiting_number (changes x) ≡ Some d → Contains xs x ⊎ Contains queue (priority_of kind d, x)
+
+-- the changes with this one as that of x
+abbrev pub with_change : (ℕ → Option Change) → ℕ → Change → ℕ → Option Change
+with_change changes x c y = if x == y then Some c else changes y
+
+-- a change waited with the number c, which has this priority, and is settled now
+pub record IsTakenChange (kind : Kind) (best : ℕ) (old : Option Change) (c : ℕ) (new : Option Change) : Type 0 where
+  pub was : waiting_number old ≡ Some c
+  pub rank : priority_of kind c ≡ best
+  pub settled : new ≡ settled_change old
+
+-- no number with which a change waits has this priority
+abbrev pub IsNoRank : Kind → ℕ → Option Change → Type 0
+IsNoRank kind best old = (d : ℕ) → waiting_number old ≡ Some d → priority_of kind d ≢ best
 
 -- v is settled now
 pub record IsSettled (old : ℕ → Option Change) (v : ℕ) (new : ℕ → Option Change) : Type 0 where

@@ -5,3 +5,4 @@ pub mod Marks
 pub mod Priority
 pub mod Rows
 pub mod Stages
+pub mod Stores

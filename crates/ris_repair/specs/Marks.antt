@@ -5,7 +5,7 @@ use Rattle.ris_base.specs.declared.analyses.Value.{Value}
 use Rattle.ris_base.specs.declared.analyses.Value.TheVariants.{Absent, Unreached, Num}
 use Rattle.ris_base.specs.declared.forests.Parent.TheVariants as parent
 use Rattle.ris_graph.specs.GraphView.{GraphView, vertex_in}
-use Rattle.ris_repair.specs.declared.frontiers.Change.{Change}
+use Rattle.ris_repair.specs.declared.stores.Change.{Change}
 
 -- a start value as a value
 abbrev pub started : Option ℕ → Value

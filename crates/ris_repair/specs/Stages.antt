@@ -14,7 +14,7 @@ use Rattle.ris_algo.specs.Spreading.{IsSpreading, IsSettling, IsTaken, in_row}
 use Rattle.ris_graph.specs.declared.nets.NetTriple.{NetTriple}
 use Rattle.ris_forest.specs.declared.deltas.DeltaRow.{DeltaRow}
 use Rattle.ris_repair.specs.Changes.{state_of, IsGain, AreDue, AreBelow, AreQueued, NoneSettled}
-use Rattle.ris_repair.specs.declared.frontiers.Change.{Change}
+use Rattle.ris_repair.specs.declared.stores.Change.{Change}
 
 -- values spread, of vertices below n; what changed is fallen or better than before, and what waits is queued
 pub record IsCarried (g : PlainGraph) (spec : Spec) (F : Forest) (n : ℕ) (fallen : List ℕ) (changes : ℕ → Option Change) (queue : List (ℕ × ℕ))

@@ -1,12 +1,11 @@
-ghost use Rattle.std.specs.Prelude.{◌≡◌, ◌<◌, ℕ, List, [], ◌∷◌, nat_eq, OnOk};
-ghost use Rattle.std.specs.List.{All, Contains};
-ghost use Rattle.std.specs.HashMap.{get};
+ghost use Rattle.std.specs.Prelude.{◌<◌, ℕ, List, [], ◌∷◌, OnOk};
 ghost use Rattle.ris_base.specs.Graph.{HasTriple, IsProper};
 ghost use Rattle.ris_base.specs.Limits.{vertex_limit};
 ghost use Rattle.ris_base.specs.declared.graphs.PlainGraph.{PlainGraph};
 ghost use Rattle.ris_forest.specs.Cells.{forest_of};
 ghost use Rattle.ris_graph.specs.declared.nets.NetTriple.{NetTriple};
 ghost use Rattle.ris_repair.specs.Stages.{IsPrepared, unadded, AreAdded};
+ghost use Rattle.ris_repair.specs.Stores.{change_at};
 
 use crate::frontiers::Frontier;
 use ris_algo::Monotone;
@@ -24,8 +23,8 @@ impl Frontier {
     ) -> Result<(), NoMemory>
         requires added { (g : PlainGraph) × IsProper g × (item.now.before < item.now.after → HasTriple g item.now.triple) }
         ensures kept { OnOk result ((g : PlainGraph) (fallen : List ℕ) (rest : List NetTriple) → IsProper g → (item.now.before < item.now.after → HasTriple g item.now.triple)
-            → IsPrepared g (A.spec forest.now.algo) (forest_of forest.now.cells) vertex_limit fallen (get nat_eq self.old.changes) self.old.queue (unadded (item.now ∷ rest))
-            → IsPrepared g (A.spec forest.now.algo) (forest_of forest.now.cells) vertex_limit fallen (get nat_eq self.new.changes) self.new.queue (unadded rest)) }
+            → IsPrepared g (A.spec forest.now.algo) (forest_of forest.now.cells) vertex_limit fallen (change_at self.old.changes) self.old.queue (unadded (item.now ∷ rest))
+            → IsPrepared g (A.spec forest.now.algo) (forest_of forest.now.cells) vertex_limit fallen (change_at self.new.changes) self.new.queue (unadded rest)) }
     {
         let added = item.triple;
         if item.after <= item.before {
@@ -46,8 +45,8 @@ impl Frontier {
     ) -> Result<(), NoMemory>
         requires added { (g : PlainGraph) × IsProper g × AreAdded g triples.now }
         ensures kept { OnOk result ((g : PlainGraph) (fallen : List ℕ) → IsProper g → AreAdded g triples.now
-            → IsPrepared g (A.spec forest.now.algo) (forest_of forest.now.cells) vertex_limit fallen (get nat_eq self.old.changes) self.old.queue (unadded triples.now)
-            → IsPrepared g (A.spec forest.now.algo) (forest_of forest.now.cells) vertex_limit fallen (get nat_eq self.new.changes) self.new.queue (unadded [])) }
+            → IsPrepared g (A.spec forest.now.algo) (forest_of forest.now.cells) vertex_limit fallen (change_at self.old.changes) self.old.queue (unadded triples.now)
+            → IsPrepared g (A.spec forest.now.algo) (forest_of forest.now.cells) vertex_limit fallen (change_at self.new.changes) self.new.queue (unadded [])) }
     {
         for k in 0..triples.len() {
             self.add_triple(forest, triples.at(k))?;

@@ -1,11 +1,14 @@
-ghost use Rattle.std.specs.Prelude.{◌≡◌, ◌≢◌, ◌↔◌, ◌<◌, IsTrue, nat_eq, IfOk, map};
+ghost use Rattle.std.specs.Prelude.{◌≡◌, ◌≢◌, ◌↔◌, ◌<◌, IsTrue, None, nat_eq, IfOk, map, slice_index_or};
 ghost use Rattle.std.specs.List.{All, AllPairs};
 ghost use Rattle.std.specs.HashMap.{get, keys, IsUnique};
+ghost use Rattle.ris_base.specs.Limits.{vertex_limit};
 ghost use Rattle.ris_forest.specs.Cells.{forest_of};
+ghost use Rattle.ris_repair.specs.Changes.{AreBelow};
 ghost use Rattle.ris_repair.specs.Stages.{AreRowsOf, IsRowOf};
+ghost use Rattle.ris_repair.specs.Stores.{change_at};
 
-use crate::frontiers::Change;
-use ris_base::{NoMemory, Value};
+use crate::stores::{Change, Store};
+use ris_base::{NoMemory, VERTEX_LIMIT, Value};
 use ris_forest::{Delta, DeltaRow, Forest};
 use std::alloc::Global;
 use std::collections::HashMap;
@@ -32,7 +35,7 @@ fn row_of<A>(vertex: u32, change: &Change, forest: &Forest<A>) -> DeltaRow
     }
 }
 
-/// A row for each change.
+/// A row for each change of a map.
 fn rows_of<A>(
     alloc: Global,
     changes: &HashMap<u32, Change>,
@@ -49,7 +52,7 @@ fn rows_of<A>(
     Ok(rows)
 }
 
-/// A row for each change, in the order of their vertices.
+/// A row for each change of a map, in the order of their vertices.
 fn sorted_rows<A>(
     alloc: Global,
     changes: &HashMap<u32, Change>,
@@ -63,8 +66,8 @@ fn sorted_rows<A>(
     Ok(rows)
 }
 
-/// The changes as rows with ascending vertices, each with whether its value differs from before.
-pub(crate) fn delta_of<A>(
+/// The changes of a map as rows with ascending vertices.
+fn map_delta<A>(
     alloc: Global,
     changes: &HashMap<u32, Change>,
     forest: &Forest<A>,
@@ -77,4 +80,38 @@ pub(crate) fn delta_of<A>(
         delta.push(*row)?;
     }
     Ok(delta)
+}
+
+/// The changes of a table as rows with ascending vertices.
+fn table_delta<A>(
+    alloc: Global,
+    changes: &[Option<Change>],
+    forest: &Forest<A>,
+) -> Result<Delta, NoMemory>
+    requires { AreBelow vertex_limit (λ x. slice_index_or changes.now x None) }
+    ensures { IfOk result (λ delta. AreRowsOf (forest_of forest.now.cells) (λ x. slice_index_or changes.now x None) delta) }
+{
+    let mut delta = Delta::new(alloc);
+    let size = VERTEX_LIMIT.min(changes.len() as u64) as u32;
+    for vertex in 0..size {
+        if let Some(change) = &changes[vertex as usize] {
+            delta.push(row_of(vertex, change, forest))?;
+        }
+    }
+    Ok(delta)
+}
+
+/// The changes as rows with ascending vertices, each with whether its value differs from before.
+pub(crate) fn delta_of<A>(
+    alloc: Global,
+    changes: &Store,
+    forest: &Forest<A>,
+) -> Result<Delta, NoMemory>
+    requires below { AreBelow vertex_limit (change_at changes.now) }
+    ensures { IfOk result (λ delta. AreRowsOf (forest_of forest.now.cells) (change_at changes.now) delta) }
+{
+    match changes {
+        Store::Sparse(map) => map_delta(alloc, map, forest),
+        Store::Dense(table) => table_delta(alloc, table, forest),
+    }
 }

@@ -1,39 +1,29 @@
-ghost use Rattle.std.specs.Prelude.{◌≡◌, ℕ, None, [], true, false, nat_eq, ◌<◌, ◌^◌, OnOk};
-ghost use Rattle.std.specs.HashMap.{get};
+ghost use Rattle.std.specs.Prelude.{◌≡◌, ◌↔◌, ◌==◌, ℕ, IsTrue, List, ◌∷◌, Some, None, [], true, false, ◌<◌, ◌^◌, OnOk, IfOk};
 ghost use Rattle.ris_base.specs.Analysis.{step};
 ghost use Rattle.ris_base.specs.Graph.{triple};
 ghost use Rattle.ris_base.specs.Safe.{beats};
 ghost use Rattle.ris_base.specs.declared.forests.Parent.TheVariants as parent;
 ghost use Rattle.ris_forest.specs.Cells.{forest_of, IsSmall};
-ghost use Rattle.ris_repair.specs.Changes.{is_better, standing_value, IsImproved, IsSame, KeepsSettled, AreBelow};
+ghost use Rattle.ris_repair.specs.Changes.{is_better, standing_value, IsImproved, IsSame, KeepsSettled, AreBelow, AreQueuedBut};
 ghost use Rattle.ris_repair.specs.Crossing.{crosses, crossed};
+ghost use Rattle.ris_repair.specs.Stores.{change_at};
 
 use crate::queues::{Queue, priority};
+use crate::stores::{Change, Store};
 use ris_algo::Monotone;
 use ris_base::{NoMemory, Parent, Triple, Value};
 use ris_forest::Forest;
 use std::alloc::Global;
-use std::collections::HashMap;
 
-/// What a vertex has so far: its value, its parent, and whether its neighbours were handed out, after which it doesn't
-/// change.
-#[derive(Clone, Copy)]
-pub(crate) struct Change {
-    pub value: Value,
-    pub parent: Parent,
-    pub settled: bool,
-}
-
-/// The vertices that changed, and those of them that wait for their neighbours to be handed out. It takes memory of what
-/// is touched, and none of the graph's.
+/// The vertices that changed, and those of them that wait for their neighbours to be handed out.
 #[derive(Drop)]
 pub(crate) struct Frontier {
-    pub changes: HashMap<u32, Change>,
+    pub changes: Store,
     pub queue: Queue,
 }
 
 /// Whether a number is better than a value; it is better than none.
-fn wins<A: Monotone>(algo: &A, number: u64, present: Value) -> bool
+pub(crate) fn wins<A: Monotone>(algo: &A, number: u64, present: Value) -> bool
     ensures { result ≡ beats (A.spec algo.now).kind number present }
 {
     match present {
@@ -43,15 +33,25 @@ fn wins<A: Monotone>(algo: &A, number: u64, present: Value) -> bool
 }
 
 impl Frontier {
-    /// A frontier at which nothing changed.
+    /// A frontier at which nothing changed, for a request: it takes memory of what is touched, and none of the graph's.
     pub(crate) fn new(alloc: Global) -> Frontier
-        ensures changes { (x : ℕ) → get nat_eq result.changes x ≡ None }
+        ensures changes { (x : ℕ) → change_at result.changes x ≡ None }
         ensures queue { result.queue ≡ [] }
     {
         Frontier {
-            changes: HashMap::new(alloc),
+            changes: Store::sparse(alloc),
             queue: Queue::new(alloc),
         }
+    }
+
+    /// A frontier at which nothing changed, for a whole graph: it takes memory of the vertex numbers below `size`.
+    pub(crate) fn whole(alloc: Global, size: u32) -> Result<Frontier, NoMemory>
+        ensures changes { IfOk result (λ frontier. (x : ℕ) → change_at frontier.changes x ≡ None) }
+        ensures queue { IfOk result (λ frontier. frontier.queue ≡ []) }
+    {
+        let changes = Store::dense(alloc, size)?;
+        let queue = Queue::new(alloc);
+        Ok(Frontier { changes, queue })
     }
 
     /// Gives the vertex `end` this number and this parent, where it isn't settled and the number is better than what it
@@ -63,14 +63,14 @@ impl Frontier {
         number: u64,
         parent: Parent,
     ) -> Result<(), NoMemory>
-        ensures improved { is_better (A.spec forest.now.algo).kind (forest_of forest.now.cells) (get nat_eq self.old.changes) end number ≡ true →
-            OnOk result (IsImproved (A.spec forest.now.algo).kind (get nat_eq self.old.changes) self.old.queue end number parent (get nat_eq self.new.changes) self.new.queue) }
-        ensures same { is_better (A.spec forest.now.algo).kind (forest_of forest.now.cells) (get nat_eq self.old.changes) end number ≡ false →
-            OnOk result (IsSame (get nat_eq self.old.changes) self.old.queue (get nat_eq self.new.changes) self.new.queue) }
-        ensures settled { KeepsSettled (get nat_eq self.old.changes) (get nat_eq self.new.changes) }
-        ensures below { (n : ℕ) → end < n → AreBelow n (get nat_eq self.old.changes) → AreBelow n (get nat_eq self.new.changes) }
+        ensures improved { is_better (A.spec forest.now.algo).kind (forest_of forest.now.cells) (change_at self.old.changes) end number ≡ true →
+            OnOk result (IsImproved (A.spec forest.now.algo).kind (change_at self.old.changes) self.old.queue end number parent (change_at self.new.changes) self.new.queue) }
+        ensures same { is_better (A.spec forest.now.algo).kind (forest_of forest.now.cells) (change_at self.old.changes) end number ≡ false →
+            OnOk result (IsSame (change_at self.old.changes) self.old.queue (change_at self.new.changes) self.new.queue) }
+        ensures settled { KeepsSettled (change_at self.old.changes) (change_at self.new.changes) }
+        ensures below { (n : ℕ) → end < n → AreBelow n (change_at self.old.changes) → AreBelow n (change_at self.new.changes) }
     {
-        let present = match self.changes.get(&end) {
+        let present = match self.changes.get(end) {
             Some(change) if change.settled => return Ok(()),
             Some(change) => change.value,
             None => forest.value(end as u64),
@@ -87,14 +87,41 @@ impl Frontier {
         Ok(())
     }
 
+    /// Gives a vertex this change, and lets it wait where it has a number.
+    pub(crate) fn put<A: Monotone>(
+        &mut self,
+        forest: &Forest<A>,
+        vertex: u32,
+        change: Change,
+    ) -> Result<(), NoMemory>
+        ensures here { OnOk result (change_at self.new.changes vertex ≡ Some change) }
+        ensures others { OnOk result ((y : ℕ) → (vertex == y) ≡ false → change_at self.new.changes y ≡ change_at self.old.changes y) }
+        ensures queued { OnOk result ((xs : List ℕ) → AreQueuedBut (A.spec forest.now.algo).kind (vertex ∷ xs) (change_at self.old.changes) self.old.queue
+            → AreQueuedBut (A.spec forest.now.algo).kind xs (change_at self.new.changes) self.new.queue) }
+    {
+        self.changes.insert(vertex, change)?;
+        if let Value::Num(number) = change.value {
+            self.queue.push(priority(forest.algo(), number), vertex)?;
+        }
+        Ok(())
+    }
+
+    /// Whether a vertex stands as it was.
+    pub(crate) fn stands(&self, x: u32) -> bool
+        ensures { IsTrue result ↔ (change_at self.now.changes x ≡ None) }
+    {
+        self.changes.get(x).is_none()
+    }
+
     /// The value of a vertex that stands as it was, and absent for one that changed.
     fn standing<A>(&self, forest: &Forest<A>, x: u32) -> Value
-        ensures value { result ≡ standing_value ((forest_of forest.now.cells).value x) (get nat_eq self.now.changes x) }
+        ensures value { result ≡ standing_value ((forest_of forest.now.cells).value x) (change_at self.now.changes x) }
         ensures small { IsSmall result }
     {
-        match self.changes.get(&x) {
-            Some(_) => Value::Absent,
-            None => forest.value(x as u64),
+        if self.stands(x) {
+            forest.value(x as u64)
+        } else {
+            Value::Absent
         }
     }
 
@@ -107,14 +134,14 @@ impl Frontier {
         along: Triple,
     ) -> Result<(), NoMemory>
         requires { along.weight < 2 ^ 36 }
-        ensures improved { crosses (A.spec forest.now.algo).kind (forest_of forest.now.cells) (get nat_eq self.old.changes)
-            (standing_value ((forest_of forest.now.cells).value from) (get nat_eq self.old.changes from)) along.weight end ≡ true →
-            OnOk result (IsImproved (A.spec forest.now.algo).kind (get nat_eq self.old.changes) self.old.queue end
-            (crossed (A.spec forest.now.algo).kind (standing_value ((forest_of forest.now.cells).value from) (get nat_eq self.old.changes from)) along.weight)
-            (parent.From from along.source along.target along.weight) (get nat_eq self.new.changes) self.new.queue) }
-        ensures same { crosses (A.spec forest.now.algo).kind (forest_of forest.now.cells) (get nat_eq self.old.changes)
-            (standing_value ((forest_of forest.now.cells).value from) (get nat_eq self.old.changes from)) along.weight end ≡ false →
-            OnOk result (IsSame (get nat_eq self.old.changes) self.old.queue (get nat_eq self.new.changes) self.new.queue) }
+        ensures improved { crosses (A.spec forest.now.algo).kind (forest_of forest.now.cells) (change_at self.old.changes)
+            (standing_value ((forest_of forest.now.cells).value from) (change_at self.old.changes from)) along.weight end ≡ true →
+            OnOk result (IsImproved (A.spec forest.now.algo).kind (change_at self.old.changes) self.old.queue end
+            (crossed (A.spec forest.now.algo).kind (standing_value ((forest_of forest.now.cells).value from) (change_at self.old.changes from)) along.weight)
+            (parent.From from along.source along.target along.weight) (change_at self.new.changes) self.new.queue) }
+        ensures same { crosses (A.spec forest.now.algo).kind (forest_of forest.now.cells) (change_at self.old.changes)
+            (standing_value ((forest_of forest.now.cells).value from) (change_at self.old.changes from)) along.weight end ≡ false →
+            OnOk result (IsSame (change_at self.old.changes) self.old.queue (change_at self.new.changes) self.new.queue) }
     {
         match self.standing(forest, from) {
             Value::Num(number) => {

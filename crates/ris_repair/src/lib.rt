@@ -10,6 +10,7 @@ mod pulling;
 mod pushing;
 mod queues;
 mod repairs;
+mod stores;
 mod taking;
 
 pub use repairs::{from_scratch, repair};

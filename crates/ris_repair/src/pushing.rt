@@ -1,6 +1,5 @@
-ghost use Rattle.std.specs.Prelude.{◌≡◌, ◌<◌, ◌^◌, ◌++◌, ℕ, List, [], length, nat_eq, OnOk};
+ghost use Rattle.std.specs.Prelude.{◌<◌, ◌^◌, ◌++◌, ℕ, List, [], length, OnOk};
 ghost use Rattle.std.specs.List.{All, sum_by};
-ghost use Rattle.std.specs.HashMap.{get};
 ghost use Rattle.ris_base.specs.Falling.{push};
 ghost use Rattle.ris_base.specs.Limits.{vertex_limit};
 ghost use Rattle.ris_base.specs.declared.graphs.PlainGraph.{PlainGraph};
@@ -11,6 +10,7 @@ ghost use Rattle.ris_graph.specs.Ticks.{IsRise};
 ghost use Rattle.ris_repair.specs.Changes.{KeepsSettled, NoneSettled, NoneWaits};
 ghost use Rattle.ris_repair.specs.Rows.{IsEnd, pairs, ends_of, end_count};
 ghost use Rattle.ris_repair.specs.Stages.{IsPushing, PushesOn, Covers};
+ghost use Rattle.ris_repair.specs.Stores.{change_at};
 
 use crate::frontiers::Frontier;
 use crate::pulling::triple_of;
@@ -33,11 +33,11 @@ impl Frontier {
     ) -> Result<(), NoMemory>
         requires number { number < 2 ^ 59 }
         requires weights { All (λ n. n.weight < 2 ^ 36) row }
-        ensures settled { KeepsSettled (get nat_eq self.old.changes) (get nat_eq self.new.changes) }
+        ensures settled { KeepsSettled (change_at self.old.changes) (change_at self.new.changes) }
         ensures ticks { IsRise (M.ticks meter.old) (M.ticks meter.new) (length row.entry) }
         ensures kept { OnOk result ((g : PlainGraph) (fallen : List ℕ) (left : List (ℕ × ℕ)) → All (IsEnd g (A.spec forest.now.algo).kind forward vertex) row.entry
-            → PushesOn g (A.spec forest.now.algo) (forest_of forest.now.cells) vertex_limit fallen (get nat_eq self.old.changes) self.old.queue vertex number (pairs row.entry ++ left)
-            → PushesOn g (A.spec forest.now.algo) (forest_of forest.now.cells) vertex_limit fallen (get nat_eq self.new.changes) self.new.queue vertex number left) }
+            → PushesOn g (A.spec forest.now.algo) (forest_of forest.now.cells) vertex_limit fallen (change_at self.old.changes) self.old.queue vertex number (pairs row.entry ++ left)
+            → PushesOn g (A.spec forest.now.algo) (forest_of forest.now.cells) vertex_limit fallen (change_at self.new.changes) self.new.queue vertex number left) }
     {
         while let Some((end, weight, _)) = row.next(meter) {
             let along = triple_of(forward, vertex, end, weight);
@@ -64,11 +64,11 @@ impl Frontier {
     ) -> Result<(), NoMemory>
         requires of { (g : PlainGraph) × IsOf graph.now g }
         requires number { number < 2 ^ 59 }
-        ensures settled { KeepsSettled (get nat_eq self.old.changes) (get nat_eq self.new.changes) }
+        ensures settled { KeepsSettled (change_at self.old.changes) (change_at self.new.changes) }
         ensures ticks { IsRise (M.ticks meter.old) (M.ticks meter.new) (end_count A.BOTH_WAYS graph.now vertex) }
         ensures kept { OnOk result ((g : PlainGraph) (fallen : List ℕ) → IsOf graph.now g
-            → PushesOn g (A.spec forest.now.algo) (forest_of forest.now.cells) vertex_limit fallen (get nat_eq self.old.changes) self.old.queue vertex number (ends_of A.BOTH_WAYS graph.now vertex)
-            → PushesOn g (A.spec forest.now.algo) (forest_of forest.now.cells) vertex_limit fallen (get nat_eq self.new.changes) self.new.queue vertex number []) }
+            → PushesOn g (A.spec forest.now.algo) (forest_of forest.now.cells) vertex_limit fallen (change_at self.old.changes) self.old.queue vertex number (ends_of A.BOTH_WAYS graph.now vertex)
+            → PushesOn g (A.spec forest.now.algo) (forest_of forest.now.cells) vertex_limit fallen (change_at self.new.changes) self.new.queue vertex number []) }
     {
         let out_row = graph.out_cursor(vertex);
         self.push_row(forest, vertex, number, out_row, true, meter)?;
@@ -89,14 +89,14 @@ impl Frontier {
         meter: &mut M,
     ) -> Result<(), NoMemory>
         requires on { (g : PlainGraph) × (fallen : List ℕ) × IsOf graph.now g
-            × IsPushing g (A.spec forest.now.algo) (forest_of forest.now.cells) vertex_limit fallen (get nat_eq self.old.changes) self.old.queue nothing }
-        requires fresh { NoneSettled (get nat_eq self.old.changes) }
-        ensures none { OnOk result (NoneWaits (get nat_eq self.new.changes)) }
+            × IsPushing g (A.spec forest.now.algo) (forest_of forest.now.cells) vertex_limit fallen (change_at self.old.changes) self.old.queue nothing }
+        requires fresh { NoneSettled (change_at self.old.changes) }
+        ensures none { OnOk result (NoneWaits (change_at self.new.changes)) }
         ensures kept { OnOk result ((g : PlainGraph) (fallen : List ℕ) → IsOf graph.now g
-            → IsPushing g (A.spec forest.now.algo) (forest_of forest.now.cells) vertex_limit fallen (get nat_eq self.old.changes) self.old.queue nothing
-            → IsPushing g (A.spec forest.now.algo) (forest_of forest.now.cells) vertex_limit fallen (get nat_eq self.new.changes) self.new.queue nothing) }
+            → IsPushing g (A.spec forest.now.algo) (forest_of forest.now.cells) vertex_limit fallen (change_at self.old.changes) self.old.queue nothing
+            → IsPushing g (A.spec forest.now.algo) (forest_of forest.now.cells) vertex_limit fallen (change_at self.new.changes) self.new.queue nothing) }
         ensures visits { (g : PlainGraph) (fallen xs : List ℕ) → IsOf graph.now g
-            → IsPushing g (A.spec forest.now.algo) (forest_of forest.now.cells) vertex_limit fallen (get nat_eq self.old.changes) self.old.queue nothing
+            → IsPushing g (A.spec forest.now.algo) (forest_of forest.now.cells) vertex_limit fallen (change_at self.old.changes) self.old.queue nothing
             → Covers g (A.spec forest.now.algo) (forest_of forest.now.cells) fallen xs
             → IsRise (M.ticks meter.old) (M.ticks meter.new) (sum_by (push g (A.spec forest.now.algo)) xs) }
     {

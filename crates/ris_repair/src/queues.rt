@@ -1,4 +1,4 @@
-ghost use Rattle.std.specs.Prelude.{◌≡◌, ◌^◌, ◌≤◌, ◌+◌, ◌∷◌, ℕ, [], OnOk, OnErr, IfSome, IfNone, IsPermutation, length};
+ghost use Rattle.std.specs.Prelude.{◌≡◌, ◌≤◌, ◌+◌, ◌∷◌, ℕ, [], OnOk, OnErr, IfSome, IfNone, IsPermutation, length};
 ghost use Rattle.std.specs.List.{All};
 ghost use Rattle.ris_repair.specs.Priority.{priority_of};
 
@@ -19,6 +19,9 @@ pub(crate) fn priority<A: Monotone>(algo: &A, number: u64) -> u64
     }
 }
 
+/// For how many vertices a queue makes room at once, when it gets its first one.
+const QUEUE_ROOM: usize = 16;
+
 /// Vertices that wait, each with a priority. Those with the greatest priority are taken first.
 #[derive(Drop)]
 pub(crate) struct Queue {
@@ -38,7 +41,7 @@ impl Model for Queue {
 }
 
 impl Queue {
-    /// A queue in which nothing waits. It takes no memory.
+    /// A queue in which nothing waits. It takes no memory before the first vertex, and then at once for some.
     pub(crate) fn new(alloc: Global) -> Queue
         ensures { result ≡ [] }
     {
@@ -47,11 +50,22 @@ impl Queue {
         }
     }
 
+    /// Makes room for some vertices at once, where none waits.
+    fn make_room(&mut self) -> Result<(), NoMemory>
+        ensures { self.new ≡ self.old }
+    {
+        if self.heap.is_empty() {
+            self.heap.reserve(QUEUE_ROOM)?;
+        }
+        Ok(())
+    }
+
     /// One vertex more waits.
     pub(crate) fn push(&mut self, priority: u64, vertex: u32) -> Result<(), NoMemory>
         ensures items { OnOk result (IsPermutation ((priority, vertex) ∷ self.old) self.new) }
         ensures unchanged { OnErr result (self.new ≡ self.old) }
     {
+        self.make_room()?;
         self.heap.push((priority, vertex))?;
         Ok(())
     }

@@ -1,5 +1,4 @@
-ghost use Rattle.std.specs.Prelude.{◌≡◌, ◌≢◌, ◌↔◌, ◌⊎◌, ◌+◌, ◌<◌, ℕ, List, Option, IsTrue, length, nat_eq, IfOk};
-ghost use Rattle.std.specs.HashMap.{get};
+ghost use Rattle.std.specs.Prelude.{◌≡◌, ◌≢◌, ◌↔◌, ◌⊎◌, ◌+◌, ◌<◌, ℕ, List, Option, IsTrue, length, IfOk};
 ghost use Rattle.std.specs.List.{All, Contains, sum_by};
 ghost use Rattle.ris_algo.specs.Spreading.{nothing};
 ghost use Rattle.ris_base.specs.Falling.{IsReachFor, pull, push};
@@ -17,7 +16,8 @@ ghost use Rattle.ris_graph.specs.Ticks.{ticked, IsRise};
 ghost use Rattle.ris_repair.specs.Due.{IsDue};
 ghost use Rattle.ris_repair.specs.Rows.{origin_count};
 ghost use Rattle.ris_repair.specs.Stages.{IsPrepared, AreRowsOf, AreRowsDue, Covers};
-ghost use Rattle.ris_repair.specs.declared.frontiers.Change.{Change};
+ghost use Rattle.ris_repair.specs.Stores.{change_at};
+ghost use Rattle.ris_repair.specs.declared.stores.Change.{Change};
 
 use crate::deltas::delta_of;
 use crate::frontiers::Frontier;
@@ -41,7 +41,7 @@ fn begun<A: Monotone, M: Meter>(
     requires due { (p : PlainGraph) × (parts : List Update) × IsDue graph.now (A.spec forest.now.algo) forest.now.cells fallen.now net.now p parts }
     requires suits { A.suits forest.now.algo graph.now.format }
     ensures prepared { IfOk result (λ frontier. (p : PlainGraph) (parts : List Update) → IsDue graph.now (A.spec forest.now.algo) forest.now.cells fallen.now net.now p parts
-        → IsPrepared (entered p parts) (A.spec forest.now.algo) (forest_of forest.now.cells) vertex_limit fallen.now (get nat_eq frontier.changes) frontier.queue nothing) }
+        → IsPrepared (entered p parts) (A.spec forest.now.algo) (forest_of forest.now.cells) vertex_limit fallen.now (change_at frontier.changes) frontier.queue nothing) }
     ensures ticks { IsRise (M.ticks meter.old) (M.ticks meter.new) (sum_by (origin_count A.BOTH_WAYS graph.now) fallen.now) }
 {
     let mut frontier = marked(alloc, graph, forest, fallen)?;
@@ -59,19 +59,19 @@ fn spread<A: Monotone, M: Meter>(
     meter: &mut M,
 ) -> Result<Delta, NoMemory>
     requires on { (g : PlainGraph) × (fallen : List ℕ) × IsOf graph.now g
-        × IsPrepared g (A.spec forest.now.algo) (forest_of forest.now.cells) vertex_limit fallen (get nat_eq frontier.changes) frontier.queue nothing }
+        × IsPrepared g (A.spec forest.now.algo) (forest_of forest.now.cells) vertex_limit fallen (change_at frontier.changes) frontier.queue nothing }
     ensures right { IfOk result (λ delta. (g : PlainGraph) (fallen : List ℕ) → IsOf graph.now g
-        → IsPrepared g (A.spec forest.now.algo) (forest_of forest.now.cells) vertex_limit fallen (get nat_eq frontier.changes) frontier.queue nothing
+        → IsPrepared g (A.spec forest.now.algo) (forest_of forest.now.cells) vertex_limit fallen (change_at frontier.changes) frontier.queue nothing
         → IsForest g (A.spec forest.now.algo) (with_rows (forest_of forest.now.cells) delta)) }
     ensures rows { IfOk result (λ delta. (changes : ℕ → Option Change) × AreRowsOf (forest_of forest.now.cells) changes delta) }
     ensures due { IfOk result (λ delta. (g : PlainGraph) (fallen : List ℕ) → IsOf graph.now g
-        → IsPrepared g (A.spec forest.now.algo) (forest_of forest.now.cells) vertex_limit fallen (get nat_eq frontier.changes) frontier.queue nothing
+        → IsPrepared g (A.spec forest.now.algo) (forest_of forest.now.cells) vertex_limit fallen (change_at frontier.changes) frontier.queue nothing
         → AreRowsDue (A.spec forest.now.algo).kind (forest_of forest.now.cells) fallen delta) }
     ensures within { IfOk result (λ delta. All (λ row. row.vertex < vertex_limit) delta) }
     ensures small { IfOk result (λ delta. All (λ row. IsSmall row.value) delta) }
     ensures rooted { IfOk result (λ delta. IsRooted (with_rows (forest_of forest.now.cells) delta)) }
     ensures visits { (g : PlainGraph) (fallen xs : List ℕ) → IsOf graph.now g
-        → IsPrepared g (A.spec forest.now.algo) (forest_of forest.now.cells) vertex_limit fallen (get nat_eq frontier.changes) frontier.queue nothing
+        → IsPrepared g (A.spec forest.now.algo) (forest_of forest.now.cells) vertex_limit fallen (change_at frontier.changes) frontier.queue nothing
         → Covers g (A.spec forest.now.algo) (forest_of forest.now.cells) fallen xs
         → IsRise (M.ticks meter.old) (M.ticks meter.new) (sum_by (push g (A.spec forest.now.algo)) xs) }
 {
@@ -125,8 +125,8 @@ pub fn repair<A: Monotone, M: Meter>(
 /// 4,194,304, there is room for them, their numbers are below 2^59, and with them parents lead to starts.
 ///
 /// The meter ticks at most so often as the vertices have neighbours from which walks may come and to which they may go,
-/// also where `NoMemory` comes. It takes time of the graph's triples times a logarithm, and looks once at each vertex
-/// number for which the forest has room.
+/// also where `NoMemory` comes. It takes time of the graph's triples times a logarithm, and time and memory of the vertex
+/// numbers for which the forest has room.
 pub fn from_scratch<A: Monotone, M: Meter>(
     alloc: Global,
     graph: &Graph<M>,

@@ -14,6 +14,8 @@ mod rows;
 mod runs;
 #[cfg(test)]
 mod tests;
+#[cfg(test)]
+mod transcript_tests;
 
 pub use locals::{Played, replay_local};
 pub use reports::put_fault;

@@ -1,4 +1,4 @@
-ghost use Rattle.std.specs.Prelude.{◌≡◌, ◌≢◌, ◌<◌, ◌↔◌, ◌++◌, ℕ, List, Option, Some, None, IsSome, length, take, map, OnOk, OnErr, codes, decimal, []};
+ghost use Rattle.std.specs.Prelude.{◌≡◌, ◌≢◌, ◌<◌, ◌↔◌, ℕ, Option, Some, None, IsSome, length, take, map, OnOk, OnErr};
 ghost use Rattle.std.specs.Io.KnownBytes.{append_known};
 ghost use Rattle.ris_base.specs.Causes.{HasCause};
 ghost use Rattle.ris_base.specs.Status.{status_line, cause_word, script_line};

@@ -1,7 +1,6 @@
-ghost use Rattle.std.specs.Prelude.{◌≡◌, ℕ, ◌<◌, ◌≤◌, map, length, sum_by, IfOk, OnOk};
+ghost use Rattle.std.specs.Prelude.{◌≡◌, ℕ, ◌<◌, ◌≤◌, map, length, IfOk, OnOk};
 ghost use Rattle.ris_analysis.specs.Analyses.{ArePlainSpecs};
 ghost use Rattle.ris_base.specs.Falling.{start_reach};
-ghost use Rattle.ris_base.specs.Limits.{script_limit};
 ghost use Rattle.ris_base.specs.Script.{opening_of};
 ghost use Rattle.ris_base.specs.Shape.{IsReadable};
 ghost use Rattle.ris_graph.specs.Ticks.{IsRise};

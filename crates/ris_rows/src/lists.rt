@@ -69,14 +69,16 @@ pub fn write(
             let _ = items.remove(place);
         }
         Err(place) if copies > 0 => {
-            let _ = items.insert(
-                place,
-                Neighbour {
-                    end,
-                    weight,
-                    copies,
-                },
-            );
+            let item = Neighbour {
+                end,
+                weight,
+                copies,
+            };
+            if place == items.len() {
+                items.push_reserved(item);
+            } else {
+                let _ = items.insert(place, item);
+            }
         }
         Err(_) => {}
     }

@@ -7,7 +7,7 @@ use Rattle.std.proofs.lemmas.Bool.{eqb-true}
 use Rattle.std.proofs.lemmas.List.Sorted.{IsNonDecreasingBy-from_sort_by_key}
 use Rattle.std.proofs.lemmas.Map.Views.{hash_map_contains_key_iff}
 use Rattle.ris_forest.specs.Cells.{forest_of}
-use Rattle.ris_repair.specs.declared.frontiers.Change.{Change}
+use Rattle.ris_repair.specs.declared.stores.Change.{Change}
 use Rattle.ris_repair.proofs.SortLemmas.{sorted_whole, sorted_ascending}
 use Rattle.ris_repair.proofs.deltas.sorted_rows.Goals as goal
 

@@ -1,6 +1,5 @@
 -- What is prepared is pushed, and the changes are listed.
-use Rattle.std.proofs.Common.{nat_eq}
-use Rattle.std.specs.HashMap.{get}
+use Rattle.ris_repair.specs.Stores.{change_at}
 use Rattle.ris_repair.proofs.RepairLemmas.{pushing_from_prepared, repaired, rows_due, rows_within, rows_small, rows_rooted}
 use Rattle.ris_repair.proofs.repairs.spread.Goals as goal
 
@@ -24,7 +23,7 @@ returns-clause-right g c = λ graph fallen of start.
     repaired _ _ _ _ _ _ _ _ of.proper (c.in_ok-push_all.ensures.kept graph fallen of (pushing_from_prepared _ _ _ _ _ _ _ start)) c.in_ok-push_all.ensures.none c.in_ok-delta.ensures
 
 pub returns-clause-rows : goal.returns-clause-rows
-returns-clause-rows g c = (get nat_eq c.push_all.new.self.changes, c.in_ok-delta.ensures)
+returns-clause-rows g c = (change_at c.push_all.new.self.changes, c.in_ok-delta.ensures)
 
 pub returns-clause-due : goal.returns-clause-due
 returns-clause-due g c = λ graph fallen of start.
@@ -44,3 +43,8 @@ pub returns-clause-rooted : goal.returns-clause-rooted
 returns-clause-rooted g c =
     let on = c.requires.on in
     rows_rooted _ _ _ _ _ _ _ _ on.2.proper (c.in_ok-push_all.ensures.kept on.0 on.1 on.2 (pushing_from_prepared _ _ _ _ _ _ _ on.3)) c.in_ok-push_all.ensures.none c.in_ok-delta.ensures
+
+pub delta_of-requires : goal.delta_of-requires
+delta_of-requires g c =
+    let on = c.requires.on in
+    record { below = (c.in_ok-push_all.ensures.kept on.0 on.1 on.2 (pushing_from_prepared _ _ _ _ _ _ _ on.3)).carried.below }

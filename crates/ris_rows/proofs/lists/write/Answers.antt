@@ -1,4 +1,6 @@
-use Rattle.std.proofs.Common.{◌≡◌, ◌∙◌, arith, sym, ap, set, if◌then◌else◌, Result, Ok, Err, IsOk, is_ok}
+use Rattle.std.proofs.Common.{◌≡◌, ◌∙◌, arith, sym, ap, set, if◌then◌else◌, length, Result, Ok, Err, IsOk, is_ok}
+use Rattle.std.proofs.lemmas.List.Edits.{insert_end}
+use Rattle.ris_rows.specs.Neighbours.{place_of}
 use Rattle.ris_rows.specs.declared.neighbours.Neighbour.{Neighbour}
 use Rattle.ris_rows.proofs.Positions.{place_of-lt, place_of-le}
 use Rattle.ris_rows.proofs.Changes.{with_copies, counted-found, counted-gone, counted-new, counted-none}
@@ -45,8 +47,18 @@ returns-in-Ok-2-clause-items c =
     let none : c.args.copies ≡ 0 = omega arith in
     c.remove.ensures.items ∙ rw (found.0, none) (sym (counted-gone ns c.args.end c.args.weight found.1))
 
-pub returns-in-Err-clause-items : goal.returns-in-Err-clause-items
-returns-in-Err-clause-items c =
+pub returns-then-place-len-clause-items : goal.returns-then-place-len-clause-items
+returns-then-place-len-clause-items c =
+    let ns = c.args.items.now.items in
+    let found = rw c.in-Err.is at c.requires.found in
+    let len = c.args.items.now.ok.0 in
+    let last : place_of ns c.args.end c.args.weight ≡ length ns = omega (arith, found.0) in
+    let item : Neighbour = record { end = c.args.end; weight = c.args.weight; copies = c.args.copies } in
+    let pushed = insert_end ns item in
+    c.push_reserved.ensures.items ∙ sym (counted-new ns c.args.end c.args.weight c.args.copies found.1 (omega arith) ∙ rw last pushed)
+
+pub returns-else-place-len-clause-items : goal.returns-else-place-len-clause-items
+returns-else-place-len-clause-items c =
     let ns = c.args.items.now.items in
     let found = rw c.in-Err.is at c.requires.found in
     let done = ok_where_room c.insert.result _ _ _ (c.insert.ensures.succeeds (c.requires.room found.1 (omega arith))) c.insert.ensures.items in

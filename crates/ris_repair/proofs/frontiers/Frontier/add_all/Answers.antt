@@ -1,6 +1,5 @@
 -- One triple more is looked at.
-use Rattle.std.proofs.Common.{◌≡◌, ◌+◌, ◌<◌, ◌≤◌, ◌∷◌, List, length, get_or, drop, nat_eq, arith, subst, ap, ◌∙◌}
-use Rattle.std.specs.HashMap.{get}
+use Rattle.std.proofs.Common.{◌≡◌, ◌+◌, ◌<◌, ◌≤◌, ◌∷◌, List, length, get_or, drop, arith, subst, ap, ◌∙◌}
 use Rattle.std.proofs.lemmas.List.{drop_more, drop_all}
 use Rattle.std.proofs.lemmas.List.Elements.{All-contains}
 use Rattle.std.proofs.lemmas.Option.{gets}
@@ -9,6 +8,7 @@ use Rattle.ris_base.specs.Limits.{vertex_limit}
 use Rattle.ris_forest.specs.Cells.{forest_of}
 use Rattle.ris_graph.specs.declared.nets.NetTriple.{NetTriple}
 use Rattle.ris_repair.specs.Stages.{IsPrepared, unadded}
+use Rattle.ris_repair.specs.Stores.{change_at}
 use Rattle.ris_repair.proofs.frontiers.Frontier.add_all.Goals as goal
 
 pub add_triple-requires : goal.add_triple-requires
@@ -37,7 +37,7 @@ loop-k-preserved g c = λ graph fallen proper added start.
     let n = vertex_limit in
     c.in_ok-add_triple.ensures.kept graph fallen (drop (k + 1) xs) proper
     (All-contains (λ (m : NetTriple). m.before < m.after → HasTriple graph m.triple) xs x added (k, lt, read))
-    (subst (λ (l : List NetTriple). IsPrepared graph spec F n fallen (get nat_eq c.loop-k.self.changes) c.loop-k.self.queue (unadded l)) cons
+    (subst (λ (l : List NetTriple). IsPrepared graph spec F n fallen (change_at c.loop-k.self.changes) c.loop-k.self.queue (unadded l)) cons
     (c.loop-k.invariant graph fallen proper added start))
 
 pub returns : goal.returns
@@ -45,6 +45,6 @@ returns g c = record {
   kept = λ graph fallen proper added start. (
       let all : length c.args.triples.now ≤ c.loop-k.k = (let t = c.loop-k-test.false in omega arith) in
       subst (λ (l : List NetTriple). IsPrepared graph (g.A.Monotone.spec c.args.forest.now.algo) (forest_of c.args.forest.now.cells) vertex_limit fallen
-      (get nat_eq c.loop-k.self.changes) c.loop-k.self.queue (unadded l)) (drop_all c.loop-k.k c.args.triples.now all)
+      (change_at c.loop-k.self.changes) c.loop-k.self.queue (unadded l)) (drop_all c.loop-k.k c.args.triples.now all)
       (c.loop-k.invariant graph fallen proper added start));
 }

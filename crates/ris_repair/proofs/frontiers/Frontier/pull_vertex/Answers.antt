@@ -1,67 +1,55 @@
--- The rows are those of the graph.
-use Rattle.std.proofs.Common.{ℕ, ◌<◌, ◌^◌, ◌++◌, true, false, [], List, length, nat_eq, sym, subst, ◌∙◌}
-use Rattle.std.specs.HashMap.{get}
-use Rattle.std.specs.List.{All}
+-- What was pulled stands in the table then.
+use Rattle.std.proofs.Common.{◌≡◌, ℕ, [], Option, Some, refl, sym, subst, ap, ◌∙◌}
 use Rattle.ris_base.specs.Limits.{vertex_limit}
 use Rattle.ris_forest.specs.Cells.{forest_of}
-use Rattle.ris_rows.specs.declared.neighbours.Neighbour.{Neighbour}
-use Rattle.ris_repair.specs.Rows.{IsOrigin, pairs, origin_count}
+use Rattle.ris_repair.specs.Changes.{with_change}
+use Rattle.ris_repair.specs.Rows.{origins_of, origin_count}
 use Rattle.ris_repair.specs.Stages.{IsPrepared, unpulled}
-use Rattle.ris_repair.proofs.RiseLemmas.{rise_within, rise_more}
-use Rattle.ris_repair.proofs.RowLemmas.{in_weights, out_weights, in_origins, out_origins, origins_one, origins_two, origin_count-one, origin_count-two}
+use Rattle.ris_repair.specs.Stores.{change_at}
+use Rattle.ris_repair.specs.declared.stores.Change.{Change}
+use Rattle.ris_repair.proofs.LocalLemmas.{with_from, with_same, no_number}
+use Rattle.ris_repair.proofs.QueueLemmas.{put_none, idle_without}
+use Rattle.ris_repair.proofs.RiseLemmas.{rise_none}
 use Rattle.ris_repair.proofs.frontiers.Frontier.pull_vertex.Goals as goal
 
-pub pull_row-requires-clause-weights : goal.pull_row-requires-clause-weights
-pull_row-requires-clause-weights g c κs within =
-    subst (λ (r : List Neighbour). All (λ m. m.weight < 2 ^ 36) r) (sym c.in_cursor-in_row.ensures.items) (in_weights c.args.graph.now c.requires.of.0 c.requires.of.1 c.args.vertex)
+pub returns-in-None-clause-ticks : goal.returns-in-None-clause-ticks
+returns-in-None-clause-ticks g c = rise_none (g.M.Meter.ticks c.args.meter.now) (origin_count g.A.Monotone.BOTH_WAYS c.args.graph.now c.args.vertex)
 
-pub pull_row-requires-2-clause-weights : goal.pull_row-requires-2-clause-weights
-pull_row-requires-2-clause-weights g c κs within =
-    subst (λ (r : List Neighbour). All (λ m. m.weight < 2 ^ 36) r) (sym c.out_cursor-out_row.ensures.items) (out_weights c.args.graph.now c.requires.of.0 c.requires.of.1 c.args.vertex)
+pub returns-in_ok-put-clause-kept : goal.returns-in_ok-put-clause-kept
+returns-in_ok-put-clause-kept g c = λ p graph fallen rest queue of has start.
+    let spec = g.A.Monotone.spec c.args.forest.now.algo in
+    let F = forest_of c.args.forest.now.cells in
+    let f = change_at c.args.self.now.changes in
+    let x = c.args.vertex in
+    let after = c.pull_rows.ensures.kept p graph fallen rest queue of has
+    (subst (λ (t : ℕ → Option Change). IsPrepared graph spec F vertex_limit fallen t queue (unpulled p x (origins_of g.A.Monotone.BOTH_WAYS c.args.graph.now x) rest))
+    (sym (with_same f x c.in-Some.change.now (sym c.in-Some.ensures))) start) in (
+      after.0,
+      subst (λ (t : ℕ → Option Change). IsPrepared graph spec F vertex_limit fallen t after.0 (unpulled p x [] rest))
+          (with_from f x c.pull_rows.new.best (change_at c.put.new.self.changes) c.in_ok-put.ensures.here c.in_ok-put.ensures.others) after.1,
+    )
 
-pub returns-in_err-pull_row-clause-ticks : goal.returns-in_err-pull_row-clause-ticks
-returns-in_err-pull_row-clause-ticks g c =
-    rise_within (g.M.Meter.ticks c.args.meter.now) (g.M.Meter.ticks c.pull_row.new.meter) (length c.in_cursor-in_row.result) (origin_count g.A.Monotone.BOTH_WAYS c.args.graph.now c.args.vertex) c.pull_row.ensures.ticks
-    (origin_count-one g.A.Monotone.BOTH_WAYS c.args.graph.now c.args.vertex c.in_cursor-in_row.result c.in_cursor-in_row.ensures.items)
-
-pub returns-then-not-BOTH_WAYS-clause-ticks : goal.returns-then-not-BOTH_WAYS-clause-ticks
-returns-then-not-BOTH_WAYS-clause-ticks g c =
-    rise_within (g.M.Meter.ticks c.args.meter.now) (g.M.Meter.ticks c.pull_row.new.meter) (length c.in_cursor-in_row.result) (origin_count g.A.Monotone.BOTH_WAYS c.args.graph.now c.args.vertex) c.pull_row.ensures.ticks
-    (origin_count-one g.A.Monotone.BOTH_WAYS c.args.graph.now c.args.vertex c.in_cursor-in_row.result c.in_cursor-in_row.ensures.items)
-
-pub returns-then-not-BOTH_WAYS-clause-kept : goal.returns-then-not-BOTH_WAYS-clause-kept
-returns-then-not-BOTH_WAYS-clause-kept g c = λ p graph fallen rest of start.
-    c.in_ok-pull_row.ensures.kept p graph fallen rest []
-    (subst (λ (r : List Neighbour). All (IsOrigin graph (g.A.Monotone.spec c.args.forest.now.algo).kind false c.args.vertex) r) (sym c.in_cursor-in_row.ensures.items)
-    (in_origins c.args.graph.now graph of (g.A.Monotone.spec c.args.forest.now.algo).kind c.args.vertex))
-    (subst (λ (l : List (ℕ × ℕ)). IsPrepared graph (g.A.Monotone.spec c.args.forest.now.algo) (forest_of c.args.forest.now.cells) vertex_limit fallen
-    (get nat_eq c.args.self.now.changes) c.args.self.now.queue (unpulled p c.args.vertex l rest))
-    (origins_one g.A.Monotone.BOTH_WAYS c.args.graph.now c.args.vertex c.in_cursor-in_row.result (sym c.if-not-BOTH_WAYS.ensures) c.in_cursor-in_row.ensures.items) start)
-
-pub returns-in_err-pull_row-2-clause-ticks : goal.returns-in_err-pull_row-2-clause-ticks
-returns-in_err-pull_row-2-clause-ticks g c =
-    rise_more (g.M.Meter.ticks c.args.meter.now) (g.M.Meter.ticks c.pull_row.new.meter) (g.M.Meter.ticks c.pull_row-2.new.meter) (length c.in_cursor-in_row.result) (length c.out_cursor-out_row.result)
-    (origin_count g.A.Monotone.BOTH_WAYS c.args.graph.now c.args.vertex) c.pull_row.ensures.ticks c.pull_row-2.ensures.ticks
-    (origin_count-two g.A.Monotone.BOTH_WAYS c.args.graph.now c.args.vertex c.in_cursor-in_row.result c.out_cursor-out_row.result (sym c.if-not-BOTH_WAYS.ensures)
-    c.in_cursor-in_row.ensures.items c.out_cursor-out_row.ensures.items)
-
-pub returns-clause-ticks : goal.returns-clause-ticks
-returns-clause-ticks g c =
-    rise_more (g.M.Meter.ticks c.args.meter.now) (g.M.Meter.ticks c.pull_row.new.meter) (g.M.Meter.ticks c.pull_row-2.new.meter) (length c.in_cursor-in_row.result) (length c.out_cursor-out_row.result)
-    (origin_count g.A.Monotone.BOTH_WAYS c.args.graph.now c.args.vertex) c.pull_row.ensures.ticks c.pull_row-2.ensures.ticks
-    (origin_count-two g.A.Monotone.BOTH_WAYS c.args.graph.now c.args.vertex c.in_cursor-in_row.result c.out_cursor-out_row.result (sym c.if-not-BOTH_WAYS.ensures)
-    c.in_cursor-in_row.ensures.items c.out_cursor-out_row.ensures.items)
-
-pub returns-clause-kept : goal.returns-clause-kept
-returns-clause-kept g c = λ p graph fallen rest of start.
-    let kind = (g.A.Monotone.spec c.args.forest.now.algo).kind in
-    let first = c.in_ok-pull_row.ensures.kept p graph fallen rest (pairs c.out_cursor-out_row.result ++ [])
-    (subst (λ (r : List Neighbour). All (IsOrigin graph kind false c.args.vertex) r) (sym c.in_cursor-in_row.ensures.items) (in_origins c.args.graph.now graph of kind c.args.vertex))
-    (subst (λ (l : List (ℕ × ℕ)). IsPrepared graph (g.A.Monotone.spec c.args.forest.now.algo) (forest_of c.args.forest.now.cells) vertex_limit fallen
-    (get nat_eq c.args.self.now.changes) c.args.self.now.queue (unpulled p c.args.vertex l rest))
-    (origins_two g.A.Monotone.BOTH_WAYS c.args.graph.now c.args.vertex c.in_cursor-in_row.result c.out_cursor-out_row.result (sym c.if-not-BOTH_WAYS.ensures)
-    c.in_cursor-in_row.ensures.items c.out_cursor-out_row.ensures.items) start) in
-    c.in_ok-pull_row-2.ensures.kept p graph fallen rest []
-    (subst (λ (r : List Neighbour). All (IsOrigin graph kind true c.args.vertex) r) (sym c.out_cursor-out_row.ensures.items)
-    (out_origins c.args.graph.now graph of kind c.args.vertex (sym (g.met.A.Monotone.of_table c.args.forest.now.algo).ways ∙ sym c.if-not-BOTH_WAYS.ensures)))
-    first
+pub returns-in_default : goal.returns-in_default
+returns-in_default g c =
+    let spec = g.A.Monotone.spec c.args.forest.now.algo in
+    let F = forest_of c.args.forest.now.cells in
+    let f = change_at c.args.self.now.changes in
+    let x = c.args.vertex in
+    let first = c.in-Some.change.now in
+    let at : f x ≡ Some first = sym c.in-Some.ensures in
+    let same : c.pull_rows.new.best ≡ first = c.pull_rows.ensures.unchanged (no_number c.pull_rows.new.best.value c.in_default.not-Num) in
+    let whole = with_same f x first at in
+    record {
+      ticks = c.pull_rows.ensures.ticks;
+      stays = λ y has. has;
+      queued = λ rest before. put_none spec.kind f f x rest (λ y off. refl) c.args.self.now.queue
+          (idle_without (f x) first at (λ d e. c.in_default.not-Num d (ap (λ (k : Change). k.value) same ∙ e))) before;
+      kept = λ p graph fallen rest queue of has start.
+          let after = c.pull_rows.ensures.kept p graph fallen rest queue of has
+          (subst (λ (t : ℕ → Option Change). IsPrepared graph spec F vertex_limit fallen t queue (unpulled p x (origins_of g.A.Monotone.BOTH_WAYS c.args.graph.now x) rest))
+          (sym whole) start) in (
+            after.0,
+            subst (λ (t : ℕ → Option Change). IsPrepared graph spec F vertex_limit fallen t after.0 (unpulled p x [] rest))
+                (ap (with_change f x) same ∙ whole) after.1,
+          );
+    }

@@ -1,6 +1,5 @@
 -- A vertex is taken, has its value, and its neighbours are handed out.
-use Rattle.std.proofs.Common.{ℕ, List, Option, nat_eq, arith, refl, subst}
-use Rattle.std.specs.HashMap.{get}
+use Rattle.std.proofs.Common.{ℕ, List, Option, arith, refl, subst}
 use Rattle.ris_base.specs.Falling.{push}
 use Rattle.ris_base.specs.Limits.{vertex_limit}
 use Rattle.ris_base.specs.declared.graphs.PlainGraph.{PlainGraph}
@@ -11,7 +10,8 @@ use Rattle.ris_graph.specs.GraphView.{IsOf}
 use Rattle.ris_repair.specs.Changes.{is_settled}
 use Rattle.ris_repair.specs.Rows.{end_count, ends_of}
 use Rattle.ris_repair.specs.Stages.{IsPushing}
-use Rattle.ris_repair.specs.declared.frontiers.Change.{Change}
+use Rattle.ris_repair.specs.Stores.{change_at}
+use Rattle.ris_repair.specs.declared.stores.Change.{Change}
 use Rattle.ris_repair.proofs.PushLemmas.{next_small, next_pushes, next_settled, row_done, settled_rise, with_queue}
 use Rattle.ris_repair.proofs.OfferLemmas.{same_changes}
 use Rattle.ris_repair.proofs.RiseLemmas.{rise_none, rise_more}
@@ -24,7 +24,7 @@ loop-vertex-init g c = record {
   kept = λ graph fallen of start. (
     start,
     rise_none (g.M.Meter.ticks c.args.meter.now)
-        (sum_where (λ x. is_settled (get nat_eq c.args.self.now.changes x)) (push graph (g.A.Monotone.spec c.args.forest.now.algo)) vertex_limit),
+        (sum_where (λ x. is_settled (change_at c.args.self.now.changes x)) (push graph (g.A.Monotone.spec c.args.forest.now.algo)) vertex_limit),
   );
 }
 
@@ -35,7 +35,7 @@ pub push_vertex-requires-clause-number : goal.push_vertex-requires-clause-number
 push_vertex-requires-clause-number g c κs within =
     let on = c.requires.on in
     next_small c.args.graph.now on.0 (g.A.Monotone.spec c.args.forest.now.algo) (forest_of c.args.forest.now.cells) vertex_limit on.1
-    (get nat_eq c.loop-vertex.self.changes) (get nat_eq c.take_best.new.self.changes) c.loop-vertex.self.queue c.take_best.new.self.queue c.in-Some.vertex c.in-Some.number on.2
+    (change_at c.loop-vertex.self.changes) (change_at c.take_best.new.self.changes) c.loop-vertex.self.queue c.take_best.new.self.queue c.in-Some.vertex c.in-Some.number on.2
     (c.loop-vertex.invariant.kept on.0 on.1 on.2 on.3).0 c.in-Some.ensures.next c.in-Some.ensures.small
 
 pub loop-vertex-smaller : goal.loop-vertex-smaller
@@ -43,9 +43,9 @@ loop-vertex-smaller g c =
     let on = c.requires.on in
     let spec = g.A.Monotone.spec c.args.forest.now.algo in
     let step = next_settled c.args.graph.now on.0 spec (forest_of c.args.forest.now.cells) vertex_limit on.1
-    (get nat_eq c.loop-vertex.self.changes) (get nat_eq c.take_best.new.self.changes) c.loop-vertex.self.queue c.take_best.new.self.queue c.in-Some.vertex c.in-Some.number on.2
+    (change_at c.loop-vertex.self.changes) (change_at c.take_best.new.self.changes) c.loop-vertex.self.queue c.take_best.new.self.queue c.in-Some.vertex c.in-Some.number on.2
     (c.loop-vertex.invariant.kept on.0 on.1 on.2 on.3).0 c.in-Some.ensures.next c.in-Some.ensures.small
-    (get nat_eq c.push_vertex.new.self.changes) (push on.0 spec) c.push_vertex.ensures.settled in
+    (change_at c.push_vertex.new.self.changes) (push on.0 spec) c.push_vertex.ensures.settled in
     let one = step.1 in
     omega arith
 
@@ -55,14 +55,14 @@ loop-vertex-preserved g c =
     let spec = g.A.Monotone.spec c.args.forest.now.algo in
     let F = forest_of c.args.forest.now.cells in
     let n = vertex_limit in
-    let old = get nat_eq c.loop-vertex.self.changes in
-    let mid = get nat_eq c.take_best.new.self.changes in
-    let last = get nat_eq c.push_vertex.new.self.changes in
+    let old = change_at c.loop-vertex.self.changes in
+    let mid = change_at c.take_best.new.self.changes in
+    let last = change_at c.push_vertex.new.self.changes in
     let v = c.in-Some.vertex in
     let number = c.in-Some.number in
     let ways = (g.met.A.Monotone.of_table c.args.forest.now.algo).ways in
     let after = λ (graph : PlainGraph) (fallen : List ℕ) (of : IsOf c.args.graph.now graph)
-    (start : IsPushing graph spec F n fallen (get nat_eq c.args.self.now.changes) c.args.self.now.queue nothing). row_done graph spec F n fallen last c.push_vertex.new.self.queue v number
+    (start : IsPushing graph spec F n fallen (change_at c.args.self.now.changes) c.args.self.now.queue nothing). row_done graph spec F n fallen last c.push_vertex.new.self.queue v number
     (c.in_ok-push_vertex.ensures.kept graph fallen of
     (next_pushes c.args.graph.now graph spec F n fallen old mid c.loop-vertex.self.queue c.take_best.new.self.queue v number of
     (c.loop-vertex.invariant.kept graph fallen of start).0 c.in-Some.ensures.next c.in-Some.ensures.small g.A.Monotone.BOTH_WAYS ways c.take_best.ensures.queued)) in
@@ -86,9 +86,9 @@ returns-clause-kept g c = λ graph fallen of start.
     let spec = g.A.Monotone.spec c.args.forest.now.algo in
     let F = forest_of c.args.forest.now.cells in
     let n = vertex_limit in
-    with_queue graph spec F n fallen (get nat_eq c.take_best.new.self.changes) c.loop-vertex.self.queue c.take_best.new.self.queue nothing
+    with_queue graph spec F n fallen (change_at c.take_best.new.self.changes) c.loop-vertex.self.queue c.take_best.new.self.queue nothing
     (subst (λ (f : ℕ → Option Change). IsPushing graph spec F n fallen f c.loop-vertex.self.queue nothing)
-    (same_changes (get nat_eq c.loop-vertex.self.changes) (get nat_eq c.take_best.new.self.changes) c.in_default.ensures.same)
+    (same_changes (change_at c.loop-vertex.self.changes) (change_at c.take_best.new.self.changes) c.in_default.ensures.same)
     (c.loop-vertex.invariant.kept graph fallen of start).0)
     c.take_best.ensures.queued
 
@@ -96,15 +96,15 @@ pub returns-clause-visits : goal.returns-clause-visits
 returns-clause-visits g c = λ graph fallen xs of start covers.
     let before = c.loop-vertex.invariant.kept graph fallen of start in
     settled_rise c.args.graph.now graph (g.A.Monotone.spec c.args.forest.now.algo) (forest_of c.args.forest.now.cells) vertex_limit fallen
-    (get nat_eq c.loop-vertex.self.changes) c.loop-vertex.self.queue nothing xs (g.M.Meter.ticks c.args.meter.now) (g.M.Meter.ticks c.loop-vertex.meter) before.0 covers before.1
+    (change_at c.loop-vertex.self.changes) c.loop-vertex.self.queue nothing xs (g.M.Meter.ticks c.args.meter.now) (g.M.Meter.ticks c.loop-vertex.meter) before.0 covers before.1
 
 pub returns-in_err-push_vertex-clause-visits : goal.returns-in_err-push_vertex-clause-visits
 returns-in_err-push_vertex-clause-visits g c = λ graph fallen xs of start covers.
     let spec = g.A.Monotone.spec c.args.forest.now.algo in
     let F = forest_of c.args.forest.now.cells in
     let n = vertex_limit in
-    let old = get nat_eq c.loop-vertex.self.changes in
-    let mid = get nat_eq c.take_best.new.self.changes in
+    let old = change_at c.loop-vertex.self.changes in
+    let mid = change_at c.take_best.new.self.changes in
     let v = c.in-Some.vertex in
     let number = c.in-Some.number in
     let ways = (g.met.A.Monotone.of_table c.args.forest.now.algo).ways in

@@ -1,12 +1,12 @@
 -- One neighbour of the row is offered the step; the count rises by one.
-use Rattle.std.proofs.Common.{◌+◌, ◌<◌, ◌^◌, ◌++◌, List, length, nat_eq, arith, refl, subst, ap, ◌∙◌}
-use Rattle.std.specs.HashMap.{get}
+use Rattle.std.proofs.Common.{◌+◌, ◌<◌, ◌^◌, ◌++◌, List, length, arith, refl, subst, ap, ◌∙◌}
 use Rattle.ris_base.specs.Limits.{vertex_limit}
 use Rattle.ris_forest.specs.Cells.{forest_of}
 use Rattle.ris_rows.specs.declared.neighbours.Neighbour.{Neighbour}
 use Rattle.ris_graph.proofs.ListingLemmas.{handed-first}
 use Rattle.ris_repair.specs.Rows.{IsEnd, pairs}
 use Rattle.ris_repair.specs.Stages.{PushesOn}
+use Rattle.ris_repair.specs.Stores.{change_at}
 use Rattle.ris_repair.proofs.PushLemmas.{pushed_item}
 use Rattle.ris_repair.proofs.RiseLemmas.{rise_none, rise_one}
 use Rattle.ris_repair.proofs.RowLemmas.{All-first, row_end}
@@ -47,11 +47,11 @@ loop-end-preserved g c =
           let before = I.kept graph fallen left ends start in
           let firsts = All-first (IsEnd graph spec.kind c.args.forward c.args.vertex) c.loop-end.row c.next.new.self item first before.0 in (
             firsts.1,
-            pushed_item graph spec F size fallen (get nat_eq c.loop-end.self.changes) (get nat_eq c.offer.new.self.changes) c.loop-end.self.queue c.offer.new.self.queue
+            pushed_item graph spec F size fallen (change_at c.loop-end.self.changes) (change_at c.offer.new.self.changes) c.loop-end.self.queue c.offer.new.self.queue
                 c.args.vertex c.args.number c.args.forward item (pairs c.next.new.self ++ left) c.step-stepped.result c.triple_of-along.result
                 ((rw c.algo.ensures.algo at c.step-stepped.ensures) ∙ (g.met.A.Monotone.of_table c.args.forest.now.algo).steps c.args.number n.weight)
                 c.triple_of-along.ensures c.in_ok-offer.ensures.improved c.in_ok-offer.ensures.same firsts.0
-                (subst (λ (r : List Neighbour). PushesOn graph spec F size fallen (get nat_eq c.loop-end.self.changes) c.loop-end.self.queue c.args.vertex c.args.number (pairs r ++ left)) first before.1),
+                (subst (λ (r : List Neighbour). PushesOn graph spec F size fallen (change_at c.loop-end.self.changes) c.loop-end.self.queue c.args.vertex c.args.number (pairs r ++ left)) first before.1),
           ));
     }
 
@@ -68,5 +68,5 @@ pub returns-clause-kept : goal.returns-clause-kept
 returns-clause-kept g c = λ graph fallen left ends start.
     let is = row_end c.loop-end.row c.in_default.ensures.item in
     subst (λ (r : List Neighbour). PushesOn graph (g.A.Monotone.spec c.args.forest.now.algo) (forest_of c.args.forest.now.cells) vertex_limit fallen
-    (get nat_eq c.loop-end.self.changes) c.loop-end.self.queue c.args.vertex c.args.number (pairs r ++ left)) is
+    (change_at c.loop-end.self.changes) c.loop-end.self.queue c.args.vertex c.args.number (pairs r ++ left)) is
     (c.loop-end.invariant.kept graph fallen left ends start).1

@@ -1,12 +1,12 @@
 -- The rows are those of the graph.
-use Rattle.std.proofs.Common.{ℕ, ◌<◌, ◌^◌, ◌++◌, true, false, [], List, length, nat_eq, sym, subst, ◌∙◌}
-use Rattle.std.specs.HashMap.{get}
+use Rattle.std.proofs.Common.{ℕ, ◌<◌, ◌^◌, ◌++◌, true, false, [], List, length, sym, subst, ◌∙◌}
 use Rattle.std.specs.List.{All}
 use Rattle.ris_base.specs.Limits.{vertex_limit}
 use Rattle.ris_forest.specs.Cells.{forest_of}
 use Rattle.ris_rows.specs.declared.neighbours.Neighbour.{Neighbour}
 use Rattle.ris_repair.specs.Rows.{IsEnd, pairs, end_count}
 use Rattle.ris_repair.specs.Stages.{PushesOn}
+use Rattle.ris_repair.specs.Stores.{change_at}
 use Rattle.ris_repair.proofs.RiseLemmas.{rise_within, rise_more}
 use Rattle.ris_repair.proofs.RowLemmas.{out_weights, in_weights, out_ends, in_ends, ends_one, ends_two, end_count-one, end_count-two}
 use Rattle.ris_repair.proofs.frontiers.Frontier.push_vertex.Goals as goal
@@ -35,7 +35,7 @@ returns-then-not-BOTH_WAYS-clause-kept g c = λ graph fallen of start.
     (subst (λ (r : List Neighbour). All (IsEnd graph (g.A.Monotone.spec c.args.forest.now.algo).kind true c.args.vertex) r) (sym c.out_cursor-out_row.ensures.items)
     (out_ends c.args.graph.now graph of (g.A.Monotone.spec c.args.forest.now.algo).kind c.args.vertex))
     (subst (λ (l : List (ℕ × ℕ)). PushesOn graph (g.A.Monotone.spec c.args.forest.now.algo) (forest_of c.args.forest.now.cells) vertex_limit fallen
-    (get nat_eq c.args.self.now.changes) c.args.self.now.queue c.args.vertex c.args.number l)
+    (change_at c.args.self.now.changes) c.args.self.now.queue c.args.vertex c.args.number l)
     (ends_one g.A.Monotone.BOTH_WAYS c.args.graph.now c.args.vertex c.out_cursor-out_row.result (sym c.if-not-BOTH_WAYS.ensures) c.out_cursor-out_row.ensures.items) start)
 
 pub returns-in_err-push_row-2-clause-ticks : goal.returns-in_err-push_row-2-clause-ticks
@@ -58,7 +58,7 @@ returns-clause-kept g c = λ graph fallen of start.
     let first = c.in_ok-push_row.ensures.kept graph fallen (pairs c.in_cursor-in_row.result ++ [])
     (subst (λ (r : List Neighbour). All (IsEnd graph kind true c.args.vertex) r) (sym c.out_cursor-out_row.ensures.items) (out_ends c.args.graph.now graph of kind c.args.vertex))
     (subst (λ (l : List (ℕ × ℕ)). PushesOn graph (g.A.Monotone.spec c.args.forest.now.algo) (forest_of c.args.forest.now.cells) vertex_limit fallen
-    (get nat_eq c.args.self.now.changes) c.args.self.now.queue c.args.vertex c.args.number l)
+    (change_at c.args.self.now.changes) c.args.self.now.queue c.args.vertex c.args.number l)
     (ends_two g.A.Monotone.BOTH_WAYS c.args.graph.now c.args.vertex c.out_cursor-out_row.result c.in_cursor-in_row.result (sym c.if-not-BOTH_WAYS.ensures)
     c.out_cursor-out_row.ensures.items c.in_cursor-in_row.ensures.items) start) in
     c.in_ok-push_row-2.ensures.kept graph fallen []
