@@ -4,6 +4,7 @@ use Rattle.std.specs.List.{All, Contains, list_any}
 use Rattle.std.proofs.lemmas.Bool.{cases_lt, le-leb}
 use Rattle.std.proofs.lemmas.List.{append-nil, length-append, length-map, map-append}
 use Rattle.std.proofs.lemmas.List.Elements.{All-contains, All-from_get_or, All-head, All-nil, All-tail, Contains-append_left, Contains-append_right, filter-append}
+use Rattle.std.proofs.lemmas.List.Folds.{sum_by-replicate}
 use Rattle.ris_base.specs.Epoch.{Ground, Resolved}
 use Rattle.ris_base.specs.Machine.{session_by, stripe_of}
 use Rattle.ris_base.specs.declared.lines.Entry.{Entry}
@@ -15,7 +16,7 @@ use Rattle.ris_base.specs.declared.updates.Update.{Update}
 use Rattle.ris_base.proofs.ListLemmas.{All-from_Contains, Contains-filter, Contains-first}
 use Rattle.ris_graph.specs.GraphView.{HasRoomOf}
 use Rattle.ris_graph.specs.Jobs
-use Rattle.ris_graph.specs.Jobs.{EachJob, HasSession, IsJob, no_jobs, with_job}
+use Rattle.ris_graph.specs.Jobs.{EachJob, HasSession, IsJob, job_count, no_jobs, with_job}
 use Rattle.ris_graph.specs.Phase.{IsReady}
 use Rattle.ris_graph.specs.declared.stripes.StripeJob.{StripeJob}
 use Rattle.ris_graph.proofs.JobLemmas.{AreJobs-none, IsJob-at, job-stripe, no_jobs-at}
@@ -26,7 +27,7 @@ use Rattle.ris_epoch.specs.DriverView.{DriverView, StandsFor}
 use Rattle.ris_epoch.specs.Ordering.{AreOrdered, inserted_by, stripe_by_entry}
 use Rattle.ris_epoch.specs.TurnOrder.{IsSealedBefore}
 use Rattle.ris_epoch.specs.Turning.{AreByStripes, HasBegun, IsNext}
-use Rattle.ris_epoch.proofs.CandidateFacts.{added_job, all-ready-room, each-with_job, length-with_job, with_job-at}
+use Rattle.ris_epoch.proofs.CandidateFacts.{added_job, all-ready-le, all-ready-room, each-with_job, job_count-with_job, length-with_job, with_job-at}
 use Rattle.ris_epoch.proofs.FirstItems.{ordered-before}
 use Rattle.ris_epoch.proofs.OrderingLemmas.{filter-inserted, length-inserted, ordered-bounds, ordered-inserted, ordered-length, ordered-once}
 use Rattle.ris_epoch.proofs.Pairs.{AllPairs-inserted}
@@ -63,8 +64,8 @@ split-length test (r ∷ batch) w c o (inr (inr h)) = let rest = split-length te
 
 -- Who is there
 
-module _ (ground : Ground) (records : List Record) (batch : List Request) (d : DriverView) (order : List Entry) (rest : List Request)
-    (h : HasBegun ground records batch d order rest) where
+module _ (ground : Ground) (records : List Record) {inserts : ℕ} (batch : List Request) (d : DriverView) (order : List Entry) (rest : List Request)
+    (h : HasBegun ground records inserts batch d order rest) where
   -- how many requests are told so, have a job or wait
   pub begun-counts : length d.replies + length order + length rest ≡ length batch
   begun-counts =
@@ -72,6 +73,13 @@ module _ (ground : Ground) (records : List Record) (batch : List Request) (d : D
       let many = h.many in
       let told = ap length h.told ∙ length-map h.wanting no_memory_for in
       omega arith
+
+  -- where the batch has no more requests than that, each job has room for all jobs
+  pub begun-ready : length batch ≤ inserts → EachJob (IsReady (job_count d.jobs) d.graph) d.jobs
+  begun-ready few =
+      let counts = begun-counts in
+      let jobs = h.counted in
+      all-ready-le (job_count d.jobs) inserts d.graph d.jobs (omega arith) h.ready
 
   -- a turn may take the batch where its sessions are there
   pub begun-batch : All (λ r. session_by r < d.opening.sessions) batch → IsBatch ground batch
@@ -144,7 +152,7 @@ module _ (ground : Ground) (records : List Record) (batch : List Request) (d : D
     waits-last = inserted-last session_by rest r (All-from_Contains (λ (x : Request). session_by x < session_by r) rest (λ x at. lesser x (rest-known x at)))
 
     -- one request more that is no candidate
-    pub begun-other : is_candidate_behind ground records r ≡ false → HasBegun ground records (batch ++ r ∷ []) d order (inserted_by session_by rest r)
+    pub begun-other : is_candidate_behind ground records r ≡ false → HasBegun ground records inserts (batch ++ r ∷ []) d order (inserted_by session_by rest r)
     begun-other is = record {
       wanting = h.wanting;
       candidates = h.candidates;
@@ -158,6 +166,7 @@ module _ (ground : Ground) (records : List Record) (batch : List Request) (d : D
       stands = h.stands;
       stripes = h.stripes;
       jobs = h.jobs;
+      counted = h.counted;
       ready = h.ready;
       lines = h.lines;
       room = h.room;
@@ -168,7 +177,7 @@ module _ (ground : Ground) (records : List Record) (batch : List Request) (d : D
   -- more room changes nothing
   pub begun-room : (f : DriverView) → HasRoomOf d.graph f.graph → f.jobs ≡ d.jobs → f.analyses ≡ d.analyses → f.journal.lines ≡ d.journal.lines
       → d.journal.spare ≤ f.journal.spare → f.opening ≡ d.opening → f.records ≡ d.records → d.record_room ≤ f.record_room → f.replies ≡ d.replies
-      → HasBegun ground records batch f order rest
+      → HasBegun ground records inserts batch f order rest
   begun-room f graph jobs analyses lines spare opening given room replies = record {
     wanting = h.wanting;
     candidates = h.candidates;
@@ -181,7 +190,8 @@ module _ (ground : Ground) (records : List Record) (batch : List Request) (d : D
     stands = stands-as d f ground records h.stands graph analyses opening lines;
     stripes = ap length jobs ∙ h.stripes;
     jobs = λ m lt. ap (λ (js : List (List StripeJob)). get_or js m []) jobs ∙ h.jobs m lt;
-    ready = subst (EachJob (IsReady f.graph)) (sym jobs) (all-ready-room d.graph f.graph d.jobs graph h.ready);
+    counted = ap job_count jobs ∙ h.counted;
+    ready = subst (EachJob (IsReady inserts f.graph)) (sym jobs) (all-ready-room inserts d.graph f.graph d.jobs graph h.ready);
     lines = (let few = h.lines in omega arith);
     room = (let few = h.room in omega arith);
     none = given ∙ h.none;
@@ -190,8 +200,8 @@ module _ (ground : Ground) (records : List Record) (batch : List Request) (d : D
 
   module _ (e : Entry) (next : IsNext batch (request.Submit e)) (is : is_candidate_behind ground records (request.Submit e) ≡ true) where
     -- one candidate more that gets no memory
-    pub begun-want : (f : DriverView) → f ≡ record d { replies = d.replies ++ no_memory_for e ∷ [] } → HasBegun ground records (batch ++ request.Submit e ∷ []) f order rest
-    begun-want f same = subst (λ (x : DriverView). HasBegun ground records (batch ++ request.Submit e ∷ []) x order rest) (sym same) (record {
+    pub begun-want : (f : DriverView) → f ≡ record d { replies = d.replies ++ no_memory_for e ∷ [] } → HasBegun ground records inserts (batch ++ request.Submit e ∷ []) f order rest
+    begun-want f same = subst (λ (x : DriverView). HasBegun ground records inserts (batch ++ request.Submit e ∷ []) x order rest) (sym same) (record {
       wanting = h.wanting ++ e ∷ [];
       candidates = h.candidates;
       taken = taken-next (request.Submit e) next;
@@ -203,6 +213,7 @@ module _ (ground : Ground) (records : List Record) (batch : List Request) (d : D
       stands = stands-same d _ ground records h.stands refl refl refl refl;
       stripes = h.stripes;
       jobs = h.jobs;
+      counted = h.counted;
       ready = h.ready;
       lines = h.lines;
       room = h.room;
@@ -251,9 +262,9 @@ module _ (ground : Ground) (records : List Record) (batch : List Request) (d : D
 
     -- one candidate more that gets its job
     pub begun-candidate : (update : Update) (f : DriverView) → e.parts ≡ update ∷ [] → f ≡ record d { jobs = with_job d.jobs e.session update }
-        → IsReady d.graph (added_job e.session update) → length order + 1 ≤ d.journal.spare → length order + 1 ≤ d.record_room
-        → HasBegun ground records (batch ++ request.Submit e ∷ []) f (inserted_by stripe_by_entry order e) rest
-    begun-candidate update f part same ready spare room = subst (λ (x : DriverView). HasBegun ground records (batch ++ request.Submit e ∷ []) x (inserted_by stripe_by_entry order e) rest) (sym same) (record {
+        → IsReady inserts d.graph (added_job e.session update) → length order + 1 ≤ d.journal.spare → length order + 1 ≤ d.record_room
+        → HasBegun ground records inserts (batch ++ request.Submit e ∷ []) f (inserted_by stripe_by_entry order e) rest
+    begun-candidate update f part same ready spare room = subst (λ (x : DriverView). HasBegun ground records inserts (batch ++ request.Submit e ∷ []) x (inserted_by stripe_by_entry order e) rest) (sym same) (record {
       wanting = h.wanting;
       candidates = h.candidates ++ e ∷ [];
       taken = taken-next (request.Submit e) next;
@@ -266,7 +277,8 @@ module _ (ground : Ground) (records : List Record) (batch : List Request) (d : D
       stands = stands-same d _ ground records h.stands refl refl refl refl;
       stripes = length-with_job d.jobs e.session update ∙ h.stripes;
       jobs = jobs-more update part;
-      ready = each-with_job (IsReady d.graph) d.jobs e.session update h.stripes h.ready ready;
+      counted = (let more = job_count-with_job d.jobs e.session update h.stripes in let long = length-inserted stripe_by_entry order e in let before = h.counted in omega arith);
+      ready = each-with_job (IsReady inserts d.graph) d.jobs e.session update h.stripes h.ready ready;
       lines = (let long = length-inserted stripe_by_entry order e in omega arith);
       room = (let long = length-inserted stripe_by_entry order e in omega arith);
       none = h.none;
@@ -287,9 +299,9 @@ next-first whole done requests es r ordered parts first =
     }
 
 -- nothing has begun
-pub begun-none : (ground : Ground) (records : List Record) (d : DriverView) → StandsFor d ground records → d.jobs ≡ no_jobs → d.records ≡ [] → d.replies ≡ []
-    → HasBegun ground records [] d [] []
-begun-none ground records d stands jobs given replies = record {
+pub begun-none : (ground : Ground) (records : List Record) (inserts : ℕ) (d : DriverView) → StandsFor d ground records → d.jobs ≡ no_jobs → d.records ≡ [] → d.replies ≡ []
+    → HasBegun ground records inserts [] d [] []
+begun-none ground records inserts d stands jobs given replies = record {
   wanting = [];
   candidates = [];
   taken = omega arith;
@@ -301,8 +313,9 @@ begun-none ground records d stands jobs given replies = record {
   stands = stands;
   stripes = ap length jobs ∙ AreJobs-none.stripes;
   jobs = λ m lt. ap (λ (js : List (List StripeJob)). get_or js m []) jobs ∙ no_jobs-at m;
-  ready = subst (EachJob (IsReady d.graph)) (sym jobs)
-      (All-from_get_or (All (IsReady d.graph)) no_jobs [] (λ k less. subst (All (IsReady d.graph)) (sym (no_jobs-at k)) (All-nil (IsReady d.graph))));
+  counted = ap job_count jobs ∙ sum_by-replicate (λ (l : List StripeJob). length l) 64 [];
+  ready = subst (EachJob (IsReady inserts d.graph)) (sym jobs)
+      (All-from_get_or (All (IsReady inserts d.graph)) no_jobs [] (λ k less. subst (All (IsReady inserts d.graph)) (sym (no_jobs-at k)) (All-nil (IsReady inserts d.graph))));
   lines = omega arith;
   room = omega arith;
   none = given;

@@ -6,6 +6,7 @@ use Rattle.std.specs.List.{All}
 use Rattle.std.proofs.lemmas.Bool.{and_parts, both_ways, cases_eq, lt-ltb, ne_eqb}
 use Rattle.std.proofs.lemmas.List.{length-set}
 use Rattle.std.proofs.lemmas.List.Elements.{All-cons, All-get_or, All-head, All-set, All-tail, All-weaker}
+use Rattle.std.proofs.lemmas.List.Sums.{sum_by-set}
 use Rattle.ris_base.specs.Effect.{edge_past, first_missing, first_past_limit, missing, past}
 use Rattle.ris_base.specs.Forest.{Forest}
 use Rattle.ris_base.specs.Graph.{greatest_weight, triple}
@@ -21,11 +22,11 @@ use Rattle.ris_base.specs.declared.updates.Update.TheVariants.{AddV, DelV, AddE,
 use Rattle.ris_base.proofs.EffectLemmas.{HasVertex-from_missing, HasVertex-from_test, below_from_past, option_or-none, past-none}
 use Rattle.ris_rows.specs.Neighbours.{copies_of}
 use Rattle.ris_graph.specs.GraphView.{GraphView, HasRoomOf, IsOf, copies_in}
-use Rattle.ris_graph.specs.Jobs.{EachJob, is_job, stripe_of, with_job, with_session}
+use Rattle.ris_graph.specs.Jobs.{EachJob, is_job, job_count, stripe_of, with_job, with_session}
 use Rattle.ris_graph.specs.Phase.{HasEnds, HasPhaseRoom, IsReady}
 use Rattle.ris_graph.specs.declared.stripes.StripeJob.{StripeJob}
 use Rattle.ris_graph.proofs.GraphLemmas.{IsOf-room}
-use Rattle.ris_graph.proofs.JobLemmas.{stripe_of-lt}
+use Rattle.ris_graph.proofs.JobLemmas.{length-with_session, stripe_of-lt}
 
 -- Candidates
 
@@ -105,29 +106,44 @@ ends-room g h (AddE u v w) same e = (subst IsTrue (sym (same.vertices u)) e.0, s
 ends-room g h (DelE u v w) same e = (subst IsTrue (sym (same.vertices u)) e.0, subst IsTrue (sym (same.vertices v)) e.1)
 ends-room g h (SetW u v w w2) same e = (subst IsTrue (sym (same.vertices u)) e.0, subst IsTrue (sym (same.vertices v)) e.1)
 
-phase-room : (g h : GraphView) (update : Update) → HasRoomOf g h → HasPhaseRoom g update → HasPhaseRoom h update
-phase-room g h (AddE u v w) same r =
+phase-room : (n : ℕ) (g h : GraphView) (update : Update) → HasRoomOf g h → HasPhaseRoom n g update → HasPhaseRoom n h update
+phase-room n g h (AddE u v w) same r =
     let out = same.out_room u in
     let into = same.in_room v in
     let first = r.0 in
     let second = r.1 in
     (omega arith, omega arith, subst (λ (n : ℕ). n ≤ 2 ^ 63) (sym (copies-room g h u v w same)) r.2)
-phase-room g h (AddV x) same r = tt
-phase-room g h (DelV x) same r = tt
-phase-room g h (DelE u v w) same r = tt
-phase-room g h (SetW u v w w2) same r = tt
+phase-room n g h (AddV x) same r = tt
+phase-room n g h (DelV x) same r = tt
+phase-room n g h (DelE u v w) same r = tt
+phase-room n g h (SetW u v w w2) same r = tt
 
 -- a job stays ready where a graph gets more room
-pub ready-room : (g h : GraphView) (j : StripeJob) → HasRoomOf g h → IsReady g j → IsReady h j
-ready-room g h j same ready = record {
+pub ready-room : (n : ℕ) (g h : GraphView) (j : StripeJob) → HasRoomOf g h → IsReady n g j → IsReady n h j
+ready-room n g h j same ready = record {
   waiting = ready.waiting;
   limits = subst (λ (f : Format). first_past_limit (greatest_of f) j.update ≡ None) (sym same.format) ready.limits;
   ends = ends-room g h j.update same ready.ends;
-  room = phase-room g h j.update same ready.room;
+  room = phase-room n g h j.update same ready.room;
 }
 
-pub all-ready-room : (g h : GraphView) (js : List (List StripeJob)) → HasRoomOf g h → EachJob (IsReady g) js → EachJob (IsReady h) js
-all-ready-room g h js same all = All-weaker (All (IsReady g)) (All (IsReady h)) (λ jobs some. All-weaker (IsReady g) (IsReady h) (λ j r. ready-room g h j same r) jobs some) js all
+pub all-ready-room : (n : ℕ) (g h : GraphView) (js : List (List StripeJob)) → HasRoomOf g h → EachJob (IsReady n g) js → EachJob (IsReady n h) js
+all-ready-room n g h js same all =
+    All-weaker (All (IsReady n g)) (All (IsReady n h)) (λ jobs some. All-weaker (IsReady n g) (IsReady n h) (λ j r. ready-room n g h j same r) jobs some) js all
+
+phase-room-le : (m n : ℕ) (g : GraphView) (update : Update) → m ≤ n → HasPhaseRoom n g update → HasPhaseRoom m g update
+phase-room-le m n g (AddE u v w) le r = (let out = r.0 in let into = r.1 in (omega arith, omega arith, r.2))
+phase-room-le m n g (AddV x) le r = tt
+phase-room-le m n g (DelV x) le r = tt
+phase-room-le m n g (DelE u v w) le r = tt
+phase-room-le m n g (SetW u v w w2) le r = tt
+
+-- a job that has room for some inserts has it for fewer
+ready-le : (m n : ℕ) (g : GraphView) (j : StripeJob) → m ≤ n → IsReady n g j → IsReady m g j
+ready-le m n g j le ready = record { waiting = ready.waiting; limits = ready.limits; ends = ready.ends; room = phase-room-le m n g j.update le ready.room }
+
+pub all-ready-le : (m n : ℕ) (g : GraphView) (js : List (List StripeJob)) → m ≤ n → EachJob (IsReady n g) js → EachJob (IsReady m g) js
+all-ready-le m n g js le all = All-weaker (All (IsReady n g)) (All (IsReady m g)) (λ jobs some. All-weaker (IsReady n g) (IsReady m g) (λ j r. ready-le m n g j le r) jobs some) js all
 
 -- One more job
 
@@ -144,9 +160,9 @@ with_session-last (i ∷ jobs) j all =
     ∙ ap (λ (js : List StripeJob). i ∷ js) (with_session-last jobs j (All-tail (λ (x : StripeJob). x.session < j.session) i jobs all))
 
 -- the job of a safe update is ready where there is room
-pub sound-ready : (g h : GraphView) (p : PlainGraph) (session : ℕ) (update : Update) → IsOf g p → HasRoomOf g h → IsSound p update → HasPhaseRoom h update
-    → IsReady h (added_job session update)
-sound-ready g h p session update of same sound room =
+pub sound-ready : (n : ℕ) (g h : GraphView) (p : PlainGraph) (session : ℕ) (update : Update) → IsOf g p → HasRoomOf g h → IsSound p update → HasPhaseRoom n h update
+    → IsReady n h (added_job session update)
+sound-ready n g h p session update of same sound room =
     let more = IsOf-room g h p same of in
     record {
       waiting = refl;
@@ -174,6 +190,15 @@ with_job-at js session update m long lesser = elim (cases_eq (stripe_of update) 
 
 pub length-with_job : (js : List (List StripeJob)) (session : ℕ) (update : Update) → length (with_job js session update) ≡ length js
 length-with_job js session update = length-set js (stripe_of update) (with_session (get_or js (stripe_of update) []) (added_job session update))
+
+-- it is one more
+pub job_count-with_job : (js : List (List StripeJob)) (session : ℕ) (update : Update) → length js ≡ 64 → job_count (with_job js session update) ≡ job_count js + 1
+job_count-with_job js session update long =
+    let at = stripe_of update in
+    let within : at < length js = (let lt = stripe_of-lt update in omega arith) in
+    let more = length-with_session (get_or js at []) (added_job session update) in
+    let whole = sum_by-set (λ (l : List StripeJob). length l) js at (with_session (get_or js at []) (added_job session update)) [] within in
+    omega (arith, more, whole)
 
 -- what holds of jobs and of one more
 all-with_session : (P : StripeJob → Type 0) (jobs : List StripeJob) (j : StripeJob) → All P jobs → P j → All P (with_session jobs j)

@@ -3,6 +3,7 @@ use Rattle.std.proofs.Common.{◌≡◌, ◌≢◌, ℕ, zero, suc, ◌+◌, ◌
 use Rattle.std.specs.List.{All, Contains, filter, insert, list_any}
 use Rattle.std.proofs.lemmas.Bool.{cases_lt, eqb-true, false≢true, le-leb, lt-leb, ne_eqb}
 use Rattle.std.proofs.lemmas.List.{append-nil}
+use Rattle.std.proofs.lemmas.List.Edits.{insert_end}
 use Rattle.std.proofs.lemmas.List.Elements.{All-contains, All-from_get_or}
 use Rattle.std.proofs.lemmas.List.Folds.{list_any_at, list_any_none}
 use Rattle.ris_base.specs.Graph.{EachOnce}
@@ -33,6 +34,12 @@ insert-behind {X} key (y ∷ ys) (suc k) x within above below =
     (λ i d low less. above (suc i) d (omega arith) (omega arith))
     (λ i d is. below (suc i) d (let e : suc i + 1 ≡ suc (i + 1) = omega arith in e ∙ ap suc is)))
     ∙ sym (ap (λ (b : Bool). if b then y ∷ inserted_by key ys x else x ∷ y ∷ ys) some)
+
+-- where the last key is at most that of x, it goes to the end
+pub append-behind : {X : Type 0} (key : X → ℕ) (xs : List X) (x : X)
+    → ((i : ℕ) (d : X) → i + 1 ≡ length xs → key (get_or xs i d) ≤ key x) → xs ++ x ∷ [] ≡ inserted_by key xs x
+append-behind key xs x below =
+    sym (insert_end xs x) ∙ insert-behind key xs (length xs) x (omega arith) (λ i d low less. absurd (omega arith)) below
 
 -- it has one item more
 pub length-inserted : {X : Type 0} (key : X → ℕ) (xs : List X) (x : X) → length (inserted_by key xs x) ≡ length xs + 1

@@ -6,7 +6,6 @@ use Rattle.std.proofs.lemmas.List.Elements.{All-head, All-tail}
 use Rattle.ris_base.specs.Forest.{Forest}
 use Rattle.ris_base.specs.Machine.{Decided, stripe_of, verdict_of}
 use Rattle.ris_base.specs.declared.events.Verdict.{Verdict}
-use Rattle.ris_base.specs.declared.events.Verdict.TheVariants.{Applied, Bounced, NoEdge, Waiting}
 use Rattle.ris_base.specs.declared.graphs.PlainGraph.{PlainGraph}
 use Rattle.ris_base.specs.declared.lines.Entry.{Entry}
 use Rattle.ris_base.specs.declared.updates.Update.{Update}

@@ -49,8 +49,8 @@ use Rattle.ris_epoch.proofs.Splits.{ArePartsOf, parts-of, submits}
 use Rattle.ris_epoch.proofs.Stands.{Contains-map, Contains-mapped, once-left, once-right}
 
 -- each candidate has its job behind the phase
-pub jobs-held : (ground : Ground) (records : List Record) (batch : List Request) (d : DriverView) (order : List Entry) (waiting : List Request)
-    (h : HasBegun ground records batch d order waiting) (after : List (List StripeJob))
+pub jobs-held : (ground : Ground) (records : List Record) {inserts : ℕ} (batch : List Request) (d : DriverView) (order : List Entry) (waiting : List Request)
+    (h : HasBegun ground records inserts batch d order waiting) (after : List (List StripeJob))
     → ((p : PlainGraph) (seq : ℕ → ℕ) (m : ℕ) → IsOf d.graph p → m < 64 → get_or after m [] ≡ cells p (forests_of d.analyses) seq [] (get_or d.jobs m []))
     → All (λ e. HasSession after e.session) order
 jobs-held ground records batch d order waiting h after cells_are =
@@ -104,8 +104,8 @@ once-apart (z ∷ xs) ys x y once at there same = elim (Contains-cases z xs x at
   | inr later ↦ once-apart xs ys x y (EachOnce-tail (session_by z) (map session_by (xs ++ ys)) once) later there same
 ]
 
-module _ (ground : Ground) (records : List Record) (batch : List Request) (old new : DriverView) (order : List Entry) (waiting rest : List Request)
-    (after : List (List StripeJob)) (h : HasBegun ground records batch old order waiting) (taken : IsBatch ground batch)
+module _ (ground : Ground) (records : List Record) {inserts : ℕ} (batch : List Request) (old new : DriverView) (order : List Entry) (waiting rest : List Request)
+    (after : List (List StripeJob)) (h : HasBegun ground records inserts batch old order waiting) (taken : IsBatch ground batch)
     (s : IsSealOf old new order waiting rest after) where
   -- the graph and the forests before
   abbrev p : PlainGraph

@@ -1,10 +1,9 @@
 -- A turn goes in order.
-use Rattle.std.proofs.Common.{◌≡◌, ℕ, ◌+◌, ◌<◌, ◌≤◌, inl, inr, Bool, List, [], ◌∷◌, ◌++◌, map, arith, sym, subst, ap, ◌∙◌}
+use Rattle.std.proofs.Common.{◌≡◌, ℕ, ◌+◌, ◌<◌, ◌≤◌, inl, inr, Bool, List, [], ◌∷◌, ◌++◌, arith, sym, subst, ap}
 use Rattle.std.specs.List.{All, AllPairs, Contains}
 use Rattle.std.proofs.lemmas.List.Elements.{All-cons, All-nil, All-weaker, Contains-append_left, Contains-append_right}
 use Rattle.std.proofs.lemmas.List.Kept.{AllPairs-cons}
-use Rattle.ris_base.specs.Epoch.{Ground, IsEpoch, Resolved}
-use Rattle.ris_base.specs.Graph.{EachOnce}
+use Rattle.ris_base.specs.Epoch.{Ground, Resolved}
 use Rattle.ris_base.specs.Machine.{Decided, Step, session_by, stripe_of}
 use Rattle.ris_base.specs.declared.lines.Entry.{Entry}
 use Rattle.ris_base.specs.declared.records.Record.{Record}
@@ -12,7 +11,7 @@ use Rattle.ris_base.specs.declared.requests.Request.{Request}
 use Rattle.ris_base.specs.declared.requests.Request.TheVariants as request
 use Rattle.ris_base.proofs.ListLemmas.{All-from_Contains}
 use Rattle.ris_graph.proofs.ListFacts.{AllPairs-nil}
-use Rattle.ris_epoch.specs.Account.{IsBatch, IsSplit, IsTurnAccount, decisions_on, forests_behind, graph_behind, is_candidate_behind}
+use Rattle.ris_epoch.specs.Account.{IsSplit, IsTurnAccount, decisions_on, forests_behind, graph_behind, is_candidate_behind}
 use Rattle.ris_epoch.specs.Ordering.{AreOrdered}
 use Rattle.ris_epoch.specs.TurnOrder.{IsInOrder, IsSealedBefore, session_in, stripe_among, stripe_found, stripe_in}
 use Rattle.ris_epoch.specs.Turning.{AreSealed}

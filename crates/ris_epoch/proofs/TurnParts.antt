@@ -45,14 +45,14 @@ taken-batch batch d e ground records taken opening stands = record {
 
 -- where there is no candidate
 pub at-none : (batch : List Request) (d m : DriverView) (order : List Entry) (rest : List Request) → length order ≡ 0
-    → ((ground : Ground) (records : List Record) → StandsFor d ground records → HasBegun ground records batch m order rest) → IsBegun batch m order rest
+    → ((ground : Ground) (records : List Record) → StandsFor d ground records → HasBegun ground records (length batch) batch m order rest) → IsBegun (length batch) batch m order rest
     → m.journal.lines ≡ d.journal.lines → m.opening ≡ d.opening → IsAtTail batch d m rest
 at-none batch d m order rest zero begun some lines opening =
     let none = empty-of order zero in
     let count = length-begun some.base some.records batch m order rest some.of in
     let same = ap front lines in
-    let seal = λ (ground : Ground) (records : List Record) (h : HasBegun ground records batch m order rest).
-    sealed-none ground records batch m rest (subst (λ (o : List Entry). HasBegun ground records batch m o rest) none h) in record {
+    let seal = λ (ground : Ground) (records : List Record) (h : HasBegun ground records (length batch) batch m order rest).
+    sealed-none ground records batch m rest (subst (λ (o : List Entry). HasBegun ground records (length batch) batch m o rest) none h) in record {
       base = some.base;
       records = some.records;
       of = seal some.base some.records some.of;
@@ -65,9 +65,9 @@ at-none batch d m order rest zero begun some lines opening =
 
 -- and behind the seal
 pub at-seal : (batch : List Request) (d m e : DriverView) (order : List Entry) (rest tail : List Request) → IsTaken batch d
-    → ((ground : Ground) (records : List Record) → StandsFor d ground records → HasBegun ground records batch m order rest) → IsBegun batch m order rest
+    → ((ground : Ground) (records : List Record) → StandsFor d ground records → HasBegun ground records (length batch) batch m order rest) → IsBegun (length batch) batch m order rest
     → m.journal.lines ≡ d.journal.lines → m.opening ≡ d.opening
-    → ((ground : Ground) (records : List Record) (rs : List Request) → HasBegun ground records rs m order rest → IsBatch ground rs → HasSealed ground records rs e tail)
+    → ((ground : Ground) (records : List Record) (rs : List Request) → HasBegun ground records (length rs) rs m order rest → IsBatch ground rs → HasSealed ground records rs e tail)
     → length e.replies + length tail ≡ length m.replies + length rest + length order
     → front e.journal.lines + length tail ≤ front m.journal.lines + length rest + length order → e.opening ≡ m.opening → IsAtTail batch d e tail
 at-seal batch d m e order rest tail taken begun some lines opening seal counts fronts kept =

@@ -1,10 +1,8 @@
 -- That a turn has no reach is impossible: each of its entries has one, and so has each of its requests that wanted memory.
 use Rattle.std.proofs.Common.{◌≡◌, ℕ, zero, suc, ◌+◌, ◌-◌, ◌<◌, ◌≤◌, inl, inr, List, [], ◌∷◌, ◌++◌, length, Option, Some, None, arith, refl, sym, subst, ap, ◌∙◌, append_assoc, sum}
-use Rattle.std.specs.Prelude.{sum_by}
-use Rattle.std.specs.List.{All, Contains, filter_map, slice_get}
+use Rattle.std.specs.List.{filter_map, slice_get}
 use Rattle.std.specs.Option.{IsSomeAnd}
 use Rattle.std.proofs.lemmas.Bool.{cases_eq, cases_lt}
-use Rattle.std.proofs.lemmas.List.Elements.{All-head, All-tail}
 use Rattle.std.proofs.lemmas.List.Sums.{sum_by-cons}
 use Rattle.ris_base.specs.Epoch.{Ground, IsEntryReach, IsGreatestReach, IsReachAt, IsTurnReach, IsWantReach, Resolved, graph_at, wanted_by}
 use Rattle.ris_base.specs.Falling.{AreReaches, IsReach, IsReachFor, IsReachUnless, pull, push}

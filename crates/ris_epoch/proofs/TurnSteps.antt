@@ -36,7 +36,7 @@ empty-of [] h = refl
 empty-of (x ∷ xs) h = absurd (omega arith)
 
 -- without candidates nothing is left to seal
-pub sealed-none : (ground : Ground) (records : List Record) (batch : List Request) (d : DriverView) (rest : List Request) → HasBegun ground records batch d [] rest
+pub sealed-none : (ground : Ground) (records : List Record) {inserts : ℕ} (batch : List Request) (d : DriverView) (rest : List Request) → HasBegun ground records inserts batch d [] rest
     → HasSealed ground records batch d rest
 unfolding decided_behind
 sealed-none ground records batch d rest h =
@@ -64,8 +64,8 @@ length-split test (r ∷ batch) w c o (inr (inl h)) = (let rest = length-split t
 length-split test (r ∷ batch) w c o (inr (inr h)) = (let rest = length-split test batch w c h.0 h.3 in let one = ap length h.2 in omega arith)
 
 -- each request of a batch that is split is told that it gets no memory, is a candidate, or waits
-pub length-begun : (ground : Ground) (records : List Record) (batch : List Request) (d : DriverView) (order : List Entry) (rest : List Request)
-    → HasBegun ground records batch d order rest → length d.replies + length rest + length order ≡ length batch
+pub length-begun : (ground : Ground) (records : List Record) {inserts : ℕ} (batch : List Request) (d : DriverView) (order : List Entry) (rest : List Request)
+    → HasBegun ground records inserts batch d order rest → length d.replies + length rest + length order ≡ length batch
 length-begun ground records batch d order rest h =
     let all = length-split (is_candidate_behind ground records) batch h.wanting h.candidates rest h.split in
     let told = ap length h.told ∙ length-map h.wanting no_memory_for in

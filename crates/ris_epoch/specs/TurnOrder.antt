@@ -1,5 +1,5 @@
 -- In which order a turn goes: its cells, the merge of their logs, and its tail.
-use Rattle.std.specs.Prelude.{◌≡◌, ℕ, ◌<◌, ◌==◌, ◌⊎◌, List, [], Option, Some, None}
+use Rattle.std.specs.Prelude.{◌≡◌, ℕ, ◌<◌, ◌==◌, ◌⊎◌, List, Option, Some, None}
 use Rattle.std.specs.List.{AllPairs, find}
 use Rattle.ris_base.specs.Machine.{Step, session_by, stripe_of}
 use Rattle.ris_base.specs.Machine.Step.{Cell, Serial, Mark, Leave, Want}

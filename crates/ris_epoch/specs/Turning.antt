@@ -7,7 +7,7 @@ use Rattle.ris_base.specs.declared.lines.Entry.{Entry}
 use Rattle.ris_base.specs.declared.records.Record.{Record}
 use Rattle.ris_base.specs.declared.replies.Outcome.{Outcome}
 use Rattle.ris_base.specs.declared.requests.Request.{Request}
-use Rattle.ris_graph.specs.Jobs.{EachJob}
+use Rattle.ris_graph.specs.Jobs.{EachJob, job_count}
 use Rattle.ris_graph.specs.Phase.{IsReady}
 use Rattle.ris_graph.specs.Ticks.{ticked}
 use Rattle.ris_epoch.specs.Account.{IsHandled, IsMerge, IsSplit, IsTail, IsWithinReach, bounced, decisions_on, front_of, is_candidate_behind, outcomes_of, records_of, resolved}
@@ -23,9 +23,9 @@ AreByStripes entries = AllPairs (λ e later. IsSealedBefore (stripe_of e.parts) 
 abbrev pub AreSealed : List Decided → Type 0
 AreSealed decisions = AllPairs (λ d later. IsSealedBefore (stripe_of d.entry.parts) d.entry.session (stripe_of later.entry.parts) later.entry.session) decisions
 
--- A batch is split: the candidates that got memory stand in the order of their stripes, each with its job and with room for its line;
--- the others wait in the order of their sessions; and those that got none are told so
-pub record HasBegun (ground : Ground) (records : List Record) (batch : List Request) (d : DriverView) (order : List Entry) (rest : List Request) : Type 0 where
+-- A batch is split: the candidates that got memory stand in the order of their stripes, each with its job, with room for so many inserts
+-- and with room for its line; the others wait in the order of their sessions; and those that got none are told so
+pub record HasBegun (ground : Ground) (records : List Record) (inserts : ℕ) (batch : List Request) (d : DriverView) (order : List Entry) (rest : List Request) : Type 0 where
   pub wanting : List Entry
   pub candidates : List Entry
   pub taken : AreOrdered 0 batch
@@ -37,17 +37,18 @@ pub record HasBegun (ground : Ground) (records : List Record) (batch : List Requ
   pub stands : StandsFor d ground records
   pub stripes : length d.jobs ≡ 64
   pub jobs : (m : ℕ) → m < 64 → slice_index_or d.jobs m [] ≡ map job_of (of_stripe m candidates)
-  pub ready : EachJob (IsReady d.graph) d.jobs
+  pub counted : job_count d.jobs ≡ length order
+  pub ready : EachJob (IsReady inserts d.graph) d.jobs
   pub lines : length order ≤ d.journal.spare
   pub room : length order ≤ d.record_room
   pub none : d.records ≡ []
   pub told : d.replies ≡ map no_memory_for wanting
 
--- it is so of some records and some batch
-pub record IsBegun (batch : List Request) (d : DriverView) (order : List Entry) (rest : List Request) : Type 0 where
+-- it is so of some records
+pub record IsBegun (inserts : ℕ) (batch : List Request) (d : DriverView) (order : List Entry) (rest : List Request) : Type 0 where
   pub base : Ground
   pub records : List Record
-  pub of : HasBegun base records batch d order rest
+  pub of : HasBegun base records inserts batch d order rest
 
 -- a request comes behind those of lesser sessions
 pub record IsNext (done : List Request) (r : Request) : Type 0 where

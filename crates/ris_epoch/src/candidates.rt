@@ -19,9 +19,6 @@ use std::alloc::Global;
 use std::collections::VecDeque;
 use std::marker::Model;
 
-/// How many inserts a row that a candidate touches has room for: one for each session.
-const INSERTS: u64 = 64;
-
 /// The greatest number of copies that a triple may have before a turn that adds some in parallel.
 const COPIES: u64 = 9_223_372_036_854_775_808;
 
@@ -54,12 +51,16 @@ impl Keyed for Candidate {
     }
 }
 
-/// Makes all room that the jobs of a turn may need for a candidate's update. `NoMemory` comes, too, where the triple of an
-/// `AddE` has more than 2^63 copies.
-pub(crate) fn make_phase_room<M>(graph: &mut Graph<M>, update: Update) -> Result<(), NoMemory>
+/// Makes all room that the jobs of a turn may need for a candidate's update: for so many inserts in both rows of an `AddE`.
+/// `NoMemory` comes, too, where its triple has more than 2^63 copies.
+pub(crate) fn make_phase_room<M>(
+    graph: &mut Graph<M>,
+    update: Update,
+    inserts: usize,
+) -> Result<(), NoMemory>
     requires { (p : PlainGraph) × (specs : List Spec) × (forests : List Forest.Forest) × IsOf graph.old p
         × (Safe.is_candidate p specs forests (update ∷ []) ≡ true) }
-    ensures ok { OnOk result (HasPhaseRoom graph.new update) }
+    ensures ok { OnOk result (HasPhaseRoom inserts graph.new update) }
     ensures same { HasRoomOf graph.old graph.new }
 {
     let Update::AddE { u, v, w } = update else {
@@ -73,7 +74,7 @@ pub(crate) fn make_phase_room<M>(graph: &mut Graph<M>, update: Update) -> Result
     if graph.copies(t) > COPIES {
         return Err(NoMemory);
     }
-    graph.make_room(t, INSERTS)
+    graph.make_room(t, inserts as u64)
 }
 
 /// Makes room for so many lines with their records.

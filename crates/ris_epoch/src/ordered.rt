@@ -112,6 +112,10 @@ impl<T: Keyed> OrderedList<T> {
         ensures { self.new ≡ inserted_by T.key_of self.old item }
     {
         let place = place_of(&self.items, item.key());
+        if place == self.items.len() {
+            self.items.push_back_reserved(item);
+            return;
+        }
         let _ = self.items.insert(place, item);
     }
 

@@ -3,7 +3,7 @@ ghost use Rattle.ris_analysis.specs.Analyses.{forests_of};
 ghost use Rattle.ris_base.specs.Machine.{Decided};
 ghost use Rattle.ris_base.specs.declared.graphs.PlainGraph.{PlainGraph};
 ghost use Rattle.ris_graph.specs.GraphView.{IsOf};
-ghost use Rattle.ris_graph.specs.Jobs.{EachJob};
+ghost use Rattle.ris_graph.specs.Jobs.{EachJob, job_count};
 ghost use Rattle.ris_graph.specs.Phase.{IsReady};
 ghost use Rattle.ris_phase.specs.Cells.{IsOrder, applied_each, cells, logs};
 
@@ -23,7 +23,7 @@ pub(crate) fn decided<R: Threads + Sync, G: Gate, M: Meter>(
     workers: u32,
     gate: &G,
 ) -> (Graph<M>, Jobs)
-    requires ready { EachJob (IsReady graph) jobs }
+    requires ready { EachJob (IsReady (job_count jobs) graph) jobs }
     requires some { 1 ≤ workers }
     requires few { workers ≤ 64 }
     ensures graph { (p : PlainGraph) (seq : ℕ → ℕ) (order : List Decided) → IsOf graph p

@@ -21,6 +21,15 @@ use ris_forest::{Delta, Deltas};
 use ris_graph::{Graph, Net};
 use std::alloc::Global;
 
+/// How many rows deltas have together.
+fn row_count(deltas: &Deltas) -> u64 {
+    let mut count: u64 = 0;
+    for a in 0..deltas.len() {
+        count = count.wrapping_add(deltas.at(a).len());
+    }
+    count
+}
+
 /// The changes that deltas make, analysis after analysis.
 fn changes_of(alloc: Global, deltas: &Deltas) -> Result<Changes, NoMemory>
     ensures changes { IfOk result (λ changes. changes ≡ changes_from 0 deltas.now) }
@@ -29,7 +38,7 @@ fn changes_of(alloc: Global, deltas: &Deltas) -> Result<Changes, NoMemory>
     let Ok(count) = u32::try_from(deltas.len()) else {
         return Err(NoMemory);
     };
-    let mut changes = Changes::new(alloc);
+    let mut changes = Changes::with_room(alloc, row_count(deltas))?;
     for a in 0..count {
         push_changes(&mut changes, a, deltas.at(u64::from(a)))?;
     }

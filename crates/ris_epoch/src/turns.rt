@@ -95,11 +95,11 @@ impl<M: Meter> Driver<M> {
         workers: u32,
         gate: &G,
     )
-        requires begun { (batch : List Request) × IsBegun batch self.old candidates.old rest.old
+        requires begun { (batch : List Request) × IsBegun (length batch) batch self.old candidates.old rest.old
             × All (λ r. session_by r < self.old.opening.sessions) batch × (front self.old.journal.lines + length batch ≤ 4294967295) }
         requires some { 1 ≤ workers }
         requires few { workers ≤ 64 }
-        ensures sealed { (base : Ground) (records : List Record) (batch : List Request) → HasBegun base records batch self.old candidates.old rest.old
+        ensures sealed { (base : Ground) (records : List Record) (batch : List Request) → HasBegun base records (length batch) batch self.old candidates.old rest.old
             → IsBatch base batch → HasSealed base records batch self.new rest.new }
         ensures empty { candidates.new ≡ [] }
         ensures counts { length self.new.replies + length rest.new ≡ length self.old.replies + length rest.old + length candidates.old }

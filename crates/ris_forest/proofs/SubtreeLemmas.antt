@@ -1,19 +1,19 @@
 -- Lists of vertices that grow by whole subtrees.
-use Rattle.std.proofs.Common.{◌≡◌, ℕ, zero, suc, ◌+◌, ◌^◌, ◌<◌, ◌≤◌, ◌==◌, ◌||◌, Bool, true, false, cond, if◌then◌else◌, ◌↔◌, ◌⊎◌, inl, inr, List, [], ◌∷◌, ◌++◌, length, get_or, Option, Some, arith, refl, sym, subst, ap, ◌∙◌, append_assoc, append-nil}
+use Rattle.std.proofs.Common.{◌≡◌, ℕ, zero, suc, ◌+◌, ◌^◌, ◌<◌, ◌≤◌, ◌==◌, Bool, true, false, cond, if◌then◌else◌, ◌↔◌, ◌⊎◌, inl, inr, List, [], ◌∷◌, ◌++◌, length, length-append, get_or, Option, Some, arith, refl, sym, subst, ap, ◌∙◌, append_assoc, append-nil}
 use Rattle.std.specs.List.{Contains, list_any}
-use Rattle.std.proofs.lemmas.Bool.{both_ways, cases_eq, cases_lt, cond_both, eqb-true, eq-eqb, ne_eqb}
+use Rattle.std.proofs.lemmas.Bool.{cases_eq, cases_lt, cond_both, eqb-true, eq-eqb, ne_eqb}
 use Rattle.std.proofs.lemmas.List.{get_or_append_left, get_or_default}
-use Rattle.std.proofs.lemmas.List.Elements.{All-nil, All-push, Contains-append_left, Contains-append_right, Contains-get_or, Contains-push_cases}
-use Rattle.std.proofs.lemmas.List.Folds.{list_any-append}
+use Rattle.std.proofs.lemmas.List.Elements.{All-push, Contains-append_left, Contains-append_right, Contains-get_or, Contains-push_cases}
 use Rattle.std.proofs.lemmas.Map.Views.{Contains-from_any}
 use Rattle.ris_base.specs.Forest.{Forest, up, vertex_of}
 use Rattle.ris_base.specs.Graph.{EachOnce}
 use Rattle.ris_base.specs.declared.forests.Parent.{Parent}
 use Rattle.ris_base.specs.declared.forests.Parent.TheVariants as parent
-use Rattle.ris_base.proofs.ListLemmas.{Contains-first, EachOnce-nil, EachOnce-push, list_any-from_passing}
+use Rattle.ris_base.proofs.ListLemmas.{Contains-first, EachOnce-push, list_any-from_passing}
 use Rattle.ris_algo.proofs.Parents.{up-none, up-root, up-add}
 use Rattle.ris_forest.specs.Cells.{IsBelow}
-use Rattle.ris_forest.specs.Growing.{AreMembers, with_vertex, GoesOn, IsClosed, GrowsBelow, GrowsByMissing}
+use Rattle.ris_forest.specs.declared.subtrees.TheConstants.{FEW}
+use Rattle.ris_forest.specs.Growing.{AreMembers, IsWithin, with_vertex, GoesOn, IsClosed, GrowsBelow, GrowsByMissing}
 use Rattle.ris_forest.specs.Linking.{no_vertex, next_of, Chain}
 use Rattle.ris_forest.specs.declared.nodes.Node.{Node}
 use Rattle.ris_forest.proofs.WalkLemmas.{up-above}
@@ -54,29 +54,62 @@ Contains-with xs x y = go (list_any (λ z. x == z) xs) refl
       ],
     )
 
+-- a vertex that the list lacks stands at its end
+pub with_vertex-new : (xs : List ℕ) (x : ℕ) → ¬ (Contains xs x) → with_vertex xs x ≡ xs ++ x ∷ []
+with_vertex-new xs x new = cond_both (list_any (λ y. x == y) xs) xs (xs ++ x ∷ []) (λ (l : List ℕ). l ≡ xs ++ x ∷ [])
+    (λ e. absurd (new (Contains-from_any eqb-true x xs e))) (λ _. refl)
+
 -- Sets of the vertices of a list
 
--- no vertices
-pub AreMembers-none : AreMembers [] []
-AreMembers-none = record { once = EachOnce-nil; small = All-nil (λ x. x < 2 ^ 32); same = λ x. refl }
+-- what a set has after one key more
+pub Contains-updated : (keys more : List ℕ) (x : ℕ) → ((q : ℕ) → list_any (λ y. q == y) more ≡ cond (x == q) true (list_any (λ y. q == y) keys))
+    → (y : ℕ) → Contains more y ↔ (Contains keys y ⊎ (y ≡ x))
+Contains-updated keys more x updates y = elim (cases_eq x y) [
+  | inl here ↦ (let t = eq-eqb x y here in (λ h. inr (sym here), λ h. Contains-from_any eqb-true y more (updates y ∙ rw t refl)))
+  | inr apart ↦ (let t = ne_eqb x y apart in let same : list_any (λ z. y == z) more ≡ list_any (λ z. y == z) keys = updates y ∙ rw t refl in (
+    λ h. inl (Contains-from_any eqb-true y keys (sym same ∙ list_any-from_passing (λ z. y == z) more y h (eq-eqb y y refl))),
+    λ h. elim h [
+      | inl old ↦ Contains-from_any eqb-true y more (same ∙ list_any-from_passing (λ z. y == z) keys y old (eq-eqb y y refl))
+      | inr last ↦ absurd (apart (sym last))
+    ],
+  ))
+]
 
--- one vertex more
-pub AreMembers-more : (keys more vertices : List ℕ) (x : ℕ) → AreMembers keys vertices → x < 2 ^ 32 → list_any (λ y. x == y) vertices ≡ false
-    → ((q : ℕ) → list_any (λ y. q == y) more ≡ cond (x == q) true (list_any (λ y. q == y) keys)) → AreMembers more (vertices ++ x ∷ [])
-AreMembers-more keys more vertices x members lt new updates = record {
+-- one key more, which is a vertex
+pub IsWithin-updated : (keys more vertices : List ℕ) (x : ℕ) → ((y : ℕ) → Contains more y ↔ (Contains keys y ⊎ (y ≡ x)))
+    → IsWithin keys vertices → Contains vertices x → IsWithin more vertices
+IsWithin-updated keys more vertices x has within here y h = elim ((has y).0 h) [ inl old ↦ within y old | inr same ↦ subst (Contains vertices) (sym same) here ]
+
+-- the same keys in another order
+pub IsWithin-reordered : (keys others vertices : List ℕ) → ((q : ℕ) → list_any (λ y. q == y) others ≡ list_any (λ y. q == y) keys)
+    → IsWithin keys vertices → IsWithin others vertices
+IsWithin-reordered keys others vertices same within x h =
+    within x (Contains-from_any eqb-true x keys (sym (same x) ∙ list_any-from_passing (λ y. x == y) others x h (eq-eqb x x refl)))
+
+-- one vertex more, which the list lacks, where they are a few still
+pub AreMembers-few : (keys vertices : List ℕ) (x : ℕ) → AreMembers keys vertices → x < 2 ^ 32 → ¬ (Contains vertices x) → length (vertices ++ x ∷ []) ≤ FEW
+    → AreMembers keys (vertices ++ x ∷ [])
+AreMembers-few keys vertices x members lt new few = record {
+  once = EachOnce-push vertices x members.once new;
   small = All-push (λ y. y < 2 ^ 32) vertices x members.small lt;
-  once = EachOnce-push vertices x members.once (λ h. both_ways (list_any (λ y. x == y) vertices) new (list_any-from_passing (λ y. x == y) vertices x h (eq-eqb x x refl)));
-  same = λ q. updates q ∙ elim (cases_eq x q) [
-    | inl here ↦ (let t = eq-eqb x q here in
-        rw t (sym (list_any-from_passing (λ y. q == y) (vertices ++ x ∷ []) x (Contains-append_right vertices (x ∷ []) x (Contains-first x [])) (eq-eqb q x (sym here)))))
-    | inr apart ↦ (let t = ne_eqb x q apart in let u = ne_eqb q x (λ e. apart (sym e)) in
-        rw (t, list_any-append (λ y. q == y) vertices (x ∷ []), u) (members.same q ∙ unchanged (list_any (λ y. q == y) vertices)))
-  ];
+  known = λ y h. Contains-append_left vertices (x ∷ []) y (members.known y h);
+  none = λ fewer. members.none (let size = length-append vertices (x ∷ []) in omega arith);
+  all = λ many. absurd (omega arith);
 }
-  where
-    unchanged : (b : Bool) → b ≡ (b || false)
-    unchanged true = refl
-    unchanged false = refl
+
+-- and one key more, where all the others are keys
+pub AreMembers-more : (keys more vertices : List ℕ) (x : ℕ) → AreMembers keys vertices → x < 2 ^ 32 → ¬ (Contains vertices x) → FEW < length (vertices ++ x ∷ [])
+    → IsWithin vertices keys → ((q : ℕ) → list_any (λ y. q == y) more ≡ cond (x == q) true (list_any (λ y. q == y) keys)) → AreMembers more (vertices ++ x ∷ [])
+AreMembers-more keys more vertices x members lt new many all updates =
+    let has = Contains-updated keys more x updates in
+    record {
+      once = EachOnce-push vertices x members.once new;
+      small = All-push (λ y. y < 2 ^ 32) vertices x members.small lt;
+      known = IsWithin-updated keys more (vertices ++ x ∷ []) x has (λ y h. Contains-append_left vertices (x ∷ []) y (members.known y h))
+          (Contains-append_right vertices (x ∷ []) x (Contains-first x []));
+      none = λ fewer. absurd (omega arith);
+      all = λ _ y h. (has y).1 (elim (Contains-push_cases vertices x y h) [ inl old ↦ inl (all y old) | inr last ↦ inr (sym last) ]);
+    }
 
 -- the same children
 pub GrowsByMissing-same : (above others : ℕ → Option ℕ) → ((x : ℕ) → above x ≡ others x) → (p : ℕ) (old new : List ℕ)

@@ -1,15 +1,22 @@
 -- Lists of vertices that grow by whole subtrees.
-use Rattle.std.specs.Prelude.{◌≡◌, ◌↔◌, ℕ, ◌<◌, ◌^◌, ◌⊎◌, ◌==◌, if◌then◌else◌, List, [], ◌∷◌, ◌++◌, Option, Some}
+use Rattle.std.specs.Prelude.{◌≡◌, ◌↔◌, ℕ, ◌<◌, ◌^◌, ◌⊎◌, ◌==◌, if◌then◌else◌, List, [], ◌∷◌, ◌++◌, length, Option, Some}
 use Rattle.std.specs.List.{All, Contains, list_any}
 use Rattle.ris_base.specs.Forest.{Forest}
 use Rattle.ris_base.specs.Graph.{EachOnce}
+use Rattle.ris_forest.specs.declared.subtrees.TheConstants.{FEW}
 use Rattle.ris_forest.specs.Cells.{IsBelow}
 
--- the keys of a set are the vertices of a list, in which each stands once and is below 2 ^ 32
+-- all that are in a list are in another
+abbrev pub IsWithin : List ℕ → List ℕ → Type 0
+IsWithin xs ys = (x : ℕ) → Contains xs x → Contains ys x
+
+-- each vertex of a list stands once and is below 2 ^ 32, and the keys of a set are some of them: none of fewer than FEW, and all of more
 pub record AreMembers (keys vertices : List ℕ) : Type 0 where
   pub once : EachOnce vertices
   pub small : All (λ x. x < 2 ^ 32) vertices
-  pub same : (x : ℕ) → list_any (λ y. x == y) keys ≡ list_any (λ y. x == y) vertices
+  pub known : IsWithin keys vertices
+  pub none : length vertices < FEW → keys ≡ []
+  pub all : FEW < length vertices → IsWithin vertices keys
 
 -- a list with x at its end, or as it is where it has x
 abbrev pub with_vertex : List ℕ → ℕ → List ℕ

@@ -1,4 +1,4 @@
-ghost use Rattle.std.specs.Prelude.{◌≡◌, ◌<◌, [], ◌∷◌, ◌++◌, All, Some, length, drop, OnOk, OnErr, slice_get};
+ghost use Rattle.std.specs.Prelude.{◌≡◌, ◌<◌, [], ◌∷◌, ◌++◌, All, Some, length, drop, IfOk, OnOk, OnErr, slice_get};
 ghost use Rattle.std.specs.Option.{option_copied};
 
 use ris_base::{NoMemory, Parent, Sequence, Value, Vertices};
@@ -41,6 +41,24 @@ impl Delta {
     {
         Delta {
             rows: Sequence::new(alloc),
+        }
+    }
+
+    /// No rows, with the memory for `n` rows at once. How much room a delta has is part of no contract.
+    pub fn with_room(alloc: Global, n: u64) -> Result<Delta, NoMemory>
+        ensures { IfOk result (λ delta. delta ≡ []) }
+    {
+        let rows = Sequence::with_room(alloc, n)?;
+        Ok(Delta { rows })
+    }
+
+    /// The delta of a vector's rows, whose vertices ascend, each once. It takes no memory.
+    pub fn from_rows(rows: Vec<DeltaRow>) -> Delta
+        requires { AreAscendingRows rows.items }
+        ensures { result ≡ rows.items }
+    {
+        Delta {
+            rows: Sequence::from_vec(rows),
         }
     }
 

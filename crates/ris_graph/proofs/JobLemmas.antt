@@ -1,6 +1,6 @@
 -- Jobs by stripe: at most one of each session, so at most 64.
 use Rattle.std.proofs.Common.{◌≡◌, ◌≢◌, ℕ, ◌+◌, ◌<◌, ◌≤◌, ◌==◌, IsTrue, List, [], ◌∷◌, ◌++◌, None, length, get_or, set, map, nat_lt, suc, add_comm, Bool, arith, refl, inl, inr, sym, ap, subst, ◌∙◌, get_or-set_same, get_or-set_other}
-use Rattle.std.specs.List.{All, Contains, count_by, sum_by}
+use Rattle.std.specs.List.{All, Contains, count_by}
 use Rattle.std.proofs.lemmas.Bool.{cases_Bool, cases_eq, cases_lt, eqb-true, eq-eqb, ne_eqb, ltb-true, ltb-false}
 use Rattle.std.proofs.lemmas.List.{get_or_past, get_or_default, get_or-replicate, length-replicate, length-set, length-append, length-map}
 use Rattle.std.proofs.lemmas.List.Elements.{All-nil, All-cons, All-head, All-tail, All-append, All-map, All-weaker, All-contains, Contains-get_or}
@@ -17,7 +17,7 @@ use Rattle.ris_base.specs.declared.updates.Update.TheVariants.{AddV, DelV, AddE,
 use Rattle.ris_base.proofs.EffectLemmas.{one_if, count_by-cons}
 use Rattle.ris_base.proofs.ListLemmas.{Contains-none, Contains-first, Contains-rest}
 use Rattle.ris_graph.proofs.ListFacts.{AllPairs-head, AllPairs-nil, AllPairs-tail, few-once, found-count}
-use Rattle.ris_graph.specs.Jobs.{AreAscending, AreJobs, AreTold, HasSession, IsJob, IsJobOf, is_job, jobs_of, no_jobs, stripe_of, with_job, with_session}
+use Rattle.ris_graph.specs.Jobs.{AreAscending, AreJobs, AreTold, HasSession, IsJob, IsJobOf, is_job, job_count, jobs_of, no_jobs, stripe_of, with_job, with_session}
 use Rattle.ris_graph.specs.declared.stripes.StripeJob.{StripeJob}
 
 -- Sessions
@@ -26,9 +26,6 @@ use Rattle.ris_graph.specs.declared.stripes.StripeJob.{StripeJob}
 abbrev pub sessions_of : List (List StripeJob) → List ℕ
 sessions_of [] = []
 sessions_of (jobs ∷ js) = map (λ j. j.session) jobs ++ sessions_of js
-
-abbrev pub job_count : List (List StripeJob) → ℕ
-job_count js = sum_by (λ jobs. length jobs) js
 
 pub count_by-sessions : (s : ℕ) (jobs : List StripeJob) → count_by (λ y. y == s) (map (λ (j : StripeJob). j.session) jobs) ≡ count_by (λ j. j.session == s) jobs
 count_by-sessions s [] = refl

@@ -16,7 +16,7 @@ use Rattle.ris_base.specs.declared.updates.Update.{Update}
 use Rattle.ris_base.proofs.EffectLemmas.{count_by-cons, one_if}
 use Rattle.ris_base.proofs.ListLemmas.{All-from_Contains, Contains-cases, Contains-filter, Contains-filtered, Contains-first, Contains-none, Contains-rest}
 use Rattle.ris_base.proofs.NumbersBelow.{get_or-numbers_below, length-numbers_below}
-use Rattle.ris_graph.specs.Jobs.{AreAscending, AreJobs, HasSession, IsJobOf, by_stripe, in_order, is_job, jobs_of, no_jobs, stripe_of, with_job, with_session}
+use Rattle.ris_graph.specs.Jobs.{AreAscending, AreJobs, HasSession, IsJobOf, by_stripe, in_order, is_job, job_count, jobs_of, no_jobs, stripe_of, with_job, with_session}
 use Rattle.ris_graph.specs.Settling.{HasPlaces, judged}
 use Rattle.ris_graph.specs.StripeView.{no_job}
 use Rattle.ris_graph.specs.declared.stripes.StripeJob.{StripeJob}
@@ -251,6 +251,13 @@ count_by-fold p jobs (j ∷ more) =
     let whole = count_by-cons p j more in
     omega (arith, rest, first, whole)
 
+length-fold : (jobs more : List StripeJob) → length (fold with_session jobs more) ≡ length jobs + length more
+length-fold jobs [] = omega arith
+length-fold jobs (j ∷ more) =
+    let rest = length-fold (with_session jobs j) more in
+    let first = length-with_session jobs j in
+    omega (arith, rest, first)
+
 -- what isn't counted isn't there
 uncounted : (s : ℕ) (jobs : List StripeJob) → count_by (λ j. j.session == s) jobs ≡ 0 → All (λ j. j.session ≢ s) jobs
 uncounted s jobs none k d lt same =
@@ -292,6 +299,15 @@ count_by-in_order s (jobs ∷ js) =
     let whole = sum_by-cons (λ (l : List StripeJob). count_by (λ j. j.session == s) l) jobs js in
     omega (arith, rest, both, whole)
 
+length-in_order : (js : List (List StripeJob)) → length (in_order js) ≡ job_count js
+unfolding in_order
+length-in_order [] = refl
+length-in_order (jobs ∷ js) =
+    let rest = length-in_order js in
+    let both = length-fold (in_order js) jobs in
+    let whole = sum_by-cons (λ (l : List StripeJob). length l) jobs js in
+    omega (arith, rest, both, whole)
+
 AreAscending-in_order : (js : List (List StripeJob)) → ((s : ℕ) → jobs_of s js ≤ 1) → AreAscending (in_order js)
 unfolding in_order
 AreAscending-in_order [] once = AllPairs-nil (λ (a b : StripeJob). a.session < b.session)
@@ -316,6 +332,10 @@ in_order-by_stripe jobs rise are =
     let low = stripe_of-lt j.update in
     Contains-in_order js m j (omega arith)
     (subst (λ (l : List StripeJob). Contains l j) (sym (get_or-by_stripe jobs m low)) (Contains-filtered (λ (i : StripeJob). stripe_of i.update == m) jobs j has (eq-eqb m m refl)))))
+
+-- by stripe they are as many
+pub length-job_count : (jobs : List StripeJob) → AreAscending jobs → AreJobs (by_stripe jobs) → length jobs ≡ job_count (by_stripe jobs)
+length-job_count jobs rise are = ap length (sym (in_order-by_stripe jobs rise are)) ∙ length-in_order (by_stripe jobs)
 
 -- Jobs by stripe that are those of a list
 

@@ -1,5 +1,5 @@
 -- A graph with jobs after edits and declines, and the graph that settling makes of it.
-use Rattle.std.proofs.Common.{◌≡◌, ◌≢◌, ℕ, suc, ◌<◌, ◌≤◌, ◌/◌, Bool, true, false, ◌==◌, IsTrue, List, [], ◌∷◌, None, length, get_or, map, arith, refl, inl, inr, sym, ap, subst, ◌∙◌}
+use Rattle.std.proofs.Common.{◌≡◌, ◌≢◌, ℕ, suc, ◌<◌, ◌/◌, Bool, true, false, ◌==◌, IsTrue, List, [], ◌∷◌, None, length, get_or, map, arith, refl, inl, inr, sym, ap, subst, ◌∙◌}
 use Rattle.std.specs.List.{All, count_by, sum_by}
 use Rattle.std.proofs.lemmas.Bool.{cases_lt}
 use Rattle.std.proofs.lemmas.List.{ext_get_or, get_or-map, get_or_past, length-map, nil_from_length}
@@ -14,14 +14,14 @@ use Rattle.ris_base.specs.declared.updates.Update.{Update}
 use Rattle.ris_base.specs.declared.updates.Update.TheVariants.{AddV, DelV, AddE, DelE, SetW}
 use Rattle.ris_rows.specs.RowView.{RowView}
 use Rattle.ris_graph.specs.GraphView.{GraphView}
-use Rattle.ris_graph.specs.Jobs.{AreAscending, AreJobs, IsJobOf, by_stripe, is_job, jobs_of, stripe_of}
+use Rattle.ris_graph.specs.Jobs.{AreAscending, AreJobs, IsJobOf, by_stripe, is_job, job_count, jobs_of, stripe_of}
 use Rattle.ris_graph.specs.Phase.{Follows, HasEnds, IsReady, IsWorkOf, LooseView, stripe_at}
 use Rattle.ris_graph.specs.Settling.{HasPlaces, judged}
 use Rattle.ris_graph.specs.StripeView.{IsWhole, StripeView, fresh, no_job, no_stripe, waits}
 use Rattle.ris_graph.specs.declared.stripes.StripeJob.{StripeJob}
 use Rattle.ris_graph.proofs.GraphLemmas.{present-lt}
 use Rattle.ris_graph.proofs.ListFacts.{AllPairs-nil}
-use Rattle.ris_graph.proofs.ListedJobs.{All-by_stripe, AreAscending-judged, HasPlaces-by_stripe, by_stripe-judged, count_by-own, few-ascending, get_or-by_stripe, sessions-low}
+use Rattle.ris_graph.proofs.ListedJobs.{All-by_stripe, AreAscending-judged, HasPlaces-by_stripe, by_stripe-judged, count_by-own, get_or-by_stripe, length-job_count, sessions-low}
 use Rattle.ris_graph.proofs.StepLemmas.{All-same_jobs, AreAscending-same_jobs, HasRowBelow, IsFresh, IsUnder, IsUnder-follows, count_by-same_jobs, quiet-steps}
 use Rattle.ris_graph.proofs.WorkLemmas.{get_or-with_jobs, ready-at, stripe-ascending}
 
@@ -63,11 +63,11 @@ module _ (g : GraphView) (js : List (List StripeJob)) (l : LooseView) (work : Is
   fresh-stripe m lt =
       let jobs : List StripeJob = get_or js m [] in
       let rows : List RowView = get_or g.stripes m [] in
-      let ready = ready-at g js m work.jobs work.ready lt in
+      let ready = ready-at (job_count js) g js m work.jobs work.ready lt in
       record {
         ascending = stripe-ascending g m work.sound lt;
         log = refl;
-        waiting = All-weaker (IsReady g) (λ j. waits j ≡ true) (λ j h. rw h.waiting refl) jobs ready;
+        waiting = All-weaker (IsReady (job_count js) g) (λ j. waits j ≡ true) (λ j h. rw h.waiting refl) jobs ready;
         homes = λ k d less. (
             let j = get_or jobs k d in
             let of = work.jobs.each m k d less in
@@ -200,8 +200,13 @@ module _ (g : GraphView) (js : List (List StripeJob)) (l : LooseView) (work : Is
         | inr past ↦ subst (λ (s : StripeView). All (λ j. P j.session j.update) s.jobs) (sym (get_or_past l.stripes m no_stripe (let size = work.stripes in omega arith))) (All-nil (λ j. P j.session j.update))
       ])))
 
-  pub few_in : length jobs ≤ 64
-  few_in = few-ascending jobs done.ascending (subst AreJobs (sym done.is) (AreJobs-work g js l work))
+  -- they are as many as were given
+  pub count_in : length jobs ≡ job_count js
+  count_in =
+      let size = length-map l.stripes (λ (s : StripeView). s.jobs) ∙ work.stripes in
+      length-job_count jobs done.ascending (subst AreJobs (sym done.is) (AreJobs-work g js l work)) ∙ ap job_count done.is
+      ∙ sum_by-agree (λ (i : List StripeJob). length i) (λ (i : List StripeJob). length i) (map (λ (s : StripeView). s.jobs) l.stripes) js [] [] (size ∙ sym work.jobs.stripes)
+      (λ m lt. ap length (jobs-at g js l work m) ∙ (under g js l work m (omega arith)).jobs.size)
 
   -- what no job of another stripe has is counted in one stripe
   pub count_by-work : (p : StripeJob → Bool) (m : ℕ) → m < 64 → ((j : StripeJob) → stripe_of j.update ≢ m → p j ≡ false) → count_by p jobs ≡ count_by p (stripe_at l m).jobs

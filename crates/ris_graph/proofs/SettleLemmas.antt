@@ -36,7 +36,7 @@ list-split xs i x lt read = sym (take-append-drop i xs) ∙ ap (λ l. take i xs 
 
 -- Copies that are added
 
-pub HasAddRoom-le : (ins : List RowView) (m n : ℕ) (update : Update) → m ≤ n → HasAddRoom ins n update → HasAddRoom ins m update
+HasAddRoom-le : (ins : List RowView) (m n : ℕ) (update : Update) → m ≤ n → HasAddRoom ins n update → HasAddRoom ins m update
 HasAddRoom-le ins m n (AddE u v w) le h = (let spare = h.1 in let few = h.2 in (h.0, omega arith, omega arith))
 HasAddRoom-le ins m n (AddV x) le h = tt
 HasAddRoom-le ins m n (DelV x) le h = tt

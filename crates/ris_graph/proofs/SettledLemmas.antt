@@ -18,19 +18,19 @@ use Rattle.ris_base.proofs.RequestLemmas.{copies_through}
 use Rattle.ris_rows.specs.Neighbours.{IsAscending, copies_of}
 use Rattle.ris_rows.specs.RowView.{RowView}
 use Rattle.ris_graph.specs.GraphView.{GraphView, IsOf, copies_in, in_row, out_row, row_at, vertex_in}
-use Rattle.ris_graph.specs.Jobs.{IsJobOf, is_job, stripe_of}
+use Rattle.ris_graph.specs.Jobs.{IsJobOf, is_job, job_count, stripe_of}
 use Rattle.ris_graph.specs.Phase.{AreAccepted, HasEnds, HasPhaseRoom, IsMerge, IsReady, IsWorkOf, LooseView, applied_of, entered_each, stripe_at}
 use Rattle.ris_graph.specs.Settling.{CanAdd, CanTake, HasAddRoom, HasInRow, with_added, with_taken}
 use Rattle.ris_graph.specs.Sound.{IsSized, IsSound}
 use Rattle.ris_graph.specs.StripeView.{StripeView, fresh, is_applied, no_stripe}
 use Rattle.ris_graph.specs.declared.stripes.StripeJob.{StripeJob}
 use Rattle.ris_graph.proofs.GraphLemmas.{IsSound-from_IsOf, in_row-is, present-lt, vertex_in-is}
-use Rattle.ris_graph.proofs.JobLemmas.{stripe_of-lt}
+use Rattle.ris_graph.proofs.JobLemmas.{job_count-le, stripe_of-lt}
 use Rattle.ris_graph.proofs.ListFacts.{filter-none}
 use Rattle.ris_graph.proofs.ListedGraph.{IsOf-listed, listed}
 use Rattle.ris_graph.proofs.MergeLemmas.{HasPlainEnds, IsFit, Runs-local, Runs-merged, accepted-each, copies_through-own, not_same, proper-each}
-use Rattle.ris_graph.proofs.PhaseLemmas.{All-work, All-work_in, AreDone, count_by-work, few_in, under}
-use Rattle.ris_graph.proofs.SettleLemmas.{CanTake-added, CanTake-after, HasAddRoom-le, added-copies, length-added, length-taken, taken-copies}
+use Rattle.ris_graph.proofs.PhaseLemmas.{All-work, All-work_in, AreDone, count_by-work, count_in, under}
+use Rattle.ris_graph.proofs.SettleLemmas.{CanTake-added, CanTake-after, added-copies, length-added, length-taken, taken-copies}
 use Rattle.ris_graph.proofs.StepLemmas.{Runs, adds_triple, stripe_copies, takes_triple}
 use Rattle.ris_graph.proofs.WorkLemmas.{out_row-at, ready-at}
 
@@ -99,8 +99,8 @@ by_stripes l (suc n) = by_stripes l n ++ applied_of (stripe_at l n)
 module _ (g : GraphView) (js : List (List StripeJob)) (l : LooseView) (work : IsWorkOf g js l) (jobs : List StripeJob) (done : AreDone l jobs) where
   -- Room in the in rows
 
-  add_room : (u : Update) → HasEnds g u → HasPhaseRoom g u → HasAddRoom g.ins 64 u
-  add_room (AddE u v w) ends room =
+  add_room : (n : ℕ) → n ≤ 64 → (u : Update) → HasEnds g u → HasPhaseRoom n g u → HasAddRoom g.ins n u
+  add_room n le (AddE u v w) ends room =
       let lt = present-lt g v ends.1 in
       let size = work.sound.sized.ins in
       let same = ap (λ (r : RowView). r.spare) (in_row-is g v) in
@@ -109,10 +109,10 @@ module _ (g : GraphView) (js : List (List StripeJob)) (l : LooseView) (work : Is
       let spare = room.1 in
       let few = room.2 in
       (omega arith, omega arith, omega arith)
-  add_room (AddV x) ends room = tt
-  add_room (DelV x) ends room = tt
-  add_room (DelE u v w) ends room = tt
-  add_room (SetW u v w w2) ends room = tt
+  add_room n le (AddV x) ends room = tt
+  add_room n le (DelV x) ends room = tt
+  add_room n le (DelE u v w) ends room = tt
+  add_room n le (SetW u v w w2) ends room = tt
 
   in_row_for : (u : Update) → HasEnds g u → HasInRow g.ins u
   in_row_for (DelE u v w) ends = (let lt = present-lt g v ends.1 in let size = work.sound.sized.ins in omega arith)
@@ -127,16 +127,16 @@ module _ (g : GraphView) (js : List (List StripeJob)) (l : LooseView) (work : Is
     limits = All-work_in g js l work jobs done (λ s u. first_past_limit (greatest_of Two) u ≡ None)
         (λ m lt. All-weaker (IsJobOf m) (λ j. first_past_limit (greatest_of Two) j.update ≡ None) (λ j h. h.limits) (get_or js m []) (work.jobs.each m));
     room = All-work_in g js l work jobs done (λ s u. HasAddRoom g.ins (length jobs) u)
-        (λ m lt. All-weaker (IsReady g) (λ j. HasAddRoom g.ins (length jobs) j.update)
-        (λ j h. HasAddRoom-le g.ins (length jobs) 64 j.update (few_in g js l work jobs done) (add_room j.update h.ends h.room))
-        (get_or js m []) (ready-at g js m work.jobs work.ready lt));
+        (λ m lt. All-weaker (IsReady (job_count js) g) (λ j. HasAddRoom g.ins (length jobs) j.update)
+        (λ j h. subst (λ (n : ℕ). HasAddRoom g.ins n j.update) (sym (count_in g js l work jobs done)) (add_room (job_count js) (job_count-le js work.jobs) j.update h.ends h.room))
+        (get_or js m []) (ready-at (job_count js) g js m work.jobs work.ready lt));
   })
 
   pub CanTake-work : CanTake (fold with_added l.ins jobs) jobs
   CanTake-work = CanTake-added l.ins jobs CanAdd-work
       (All-work_in g js l work jobs done (λ s u. HasInRow l.ins u)
-      (λ m lt. All-weaker (IsReady g) (λ j. HasInRow l.ins j.update) (λ j h. subst (λ (ins : List RowView). HasInRow ins j.update) (sym work.ins) (in_row_for j.update h.ends))
-      (get_or js m []) (ready-at g js m work.jobs work.ready lt)))
+      (λ m lt. All-weaker (IsReady (job_count js) g) (λ j. HasInRow l.ins j.update) (λ j h. subst (λ (ins : List RowView). HasInRow ins j.update) (sym work.ins) (in_row_for j.update h.ends))
+      (get_or js m []) (ready-at (job_count js) g js m work.jobs work.ready lt)))
 
   -- Copies
 
@@ -218,7 +218,7 @@ module _ (g : GraphView) (js : List (List StripeJob)) (l : LooseView) (work : Is
     fit_updates = All-merged (IsFit p) us (λ m lt. subst (All (IsFit p)) (sym (merge m lt)) (All-applied_of (IsFit p) (stripe_at l m)
         (All-work g js l work (λ s u. IsFit p u) m lt (λ k d less. (
         let j = get_or (get_or js m []) k d in
-        let ready = ready-at g js m work.jobs work.ready lt k d less in
+        let ready = ready-at (job_count js) g js m work.jobs work.ready lt k d less in
         record {
           kind = (work.jobs.each m k d less).kind;
           limits = subst (λ (f : Format). first_past_limit (greatest_of f) j.update ≡ None) (sym of.format) ready.limits;

@@ -12,7 +12,7 @@ use Rattle.ris_base.specs.declared.updates.Update.TheVariants.{AddV, DelV, AddE,
 use Rattle.ris_rows.specs.Neighbours.{IsAscending, copies_of}
 use Rattle.ris_rows.specs.RowView.{RowView}
 use Rattle.ris_graph.specs.GraphView.{GraphView, out_row, row_at}
-use Rattle.ris_graph.specs.Jobs.{AreJobs, EachJob, IsJobOf, by_stripe, in_order, stripe_of}
+use Rattle.ris_graph.specs.Jobs.{AreJobs, EachJob, IsJobOf, by_stripe, in_order, job_count, stripe_of}
 use Rattle.ris_graph.specs.Phase.{HasPhaseRoom, IsReady, IsWorkOf, loosened, with_jobs}
 use Rattle.ris_graph.specs.Sound.{IsSound}
 use Rattle.ris_graph.specs.StripeView.{CanCarry, adds_at, adds_copy, fresh, no_stripe, waits}
@@ -30,19 +30,19 @@ pub stripe-ascending : (g : GraphView) (m : ℕ) → IsSound g → m < 64 → (k
 stripe-ascending g m sound lt k =
     subst (λ (r : RowView). IsAscending r.items) (out_row-at g m k (64 * k + m) (omega arith) (omega arith)) (sound.outs (64 * k + m))
 
-pub ready-at : (g : GraphView) (js : List (List StripeJob)) (m : ℕ) → AreJobs js → EachJob (IsReady g) js → m < 64 → All (IsReady g) (get_or js m [])
-ready-at g js m are ready lt = (let size = are.stripes in All-get_or (All (IsReady g)) js m [] (omega arith) ready)
+pub ready-at : (n : ℕ) (g : GraphView) (js : List (List StripeJob)) (m : ℕ) → AreJobs js → EachJob (IsReady n g) js → m < 64 → All (IsReady n g) (get_or js m [])
+ready-at n g js m are ready lt = (let size = are.stripes in All-get_or (All (IsReady n g)) js m [] (omega arith) ready)
 
-spare-for : (g : GraphView) (m k : ℕ) (update : Update) → adds_at k update ≡ true → stripe_of update ≡ m → HasPhaseRoom g update → 64 ≤ (row_at (get_or g.stripes m []) k).spare
-spare-for g m k (AddE u v w) adds home room = subst (λ (r : RowView). 64 ≤ r.spare) (out_row-at g m k u home (eqb-true (u / 64) k adds)) room.0
-spare-for g m k (AddV x) adds home room = absurd (both_ways false refl adds)
-spare-for g m k (DelV x) adds home room = absurd (both_ways false refl adds)
-spare-for g m k (DelE u v w) adds home room = absurd (both_ways false refl adds)
-spare-for g m k (SetW u v w w2) adds home room = absurd (both_ways false refl adds)
+spare-for : (n : ℕ) (g : GraphView) (m k : ℕ) (update : Update) → adds_at k update ≡ true → stripe_of update ≡ m → HasPhaseRoom n g update → n ≤ (row_at (get_or g.stripes m []) k).spare
+spare-for n g m k (AddE u v w) adds home room = subst (λ (r : RowView). n ≤ r.spare) (out_row-at g m k u home (eqb-true (u / 64) k adds)) room.0
+spare-for n g m k (AddV x) adds home room = absurd (both_ways false refl adds)
+spare-for n g m k (DelV x) adds home room = absurd (both_ways false refl adds)
+spare-for n g m k (DelE u v w) adds home room = absurd (both_ways false refl adds)
+spare-for n g m k (SetW u v w w2) adds home room = absurd (both_ways false refl adds)
 
-copies-for : (g : GraphView) (m k e x : ℕ) (update : Update) → adds_copy k e x update ≡ true → stripe_of update ≡ m → HasPhaseRoom g update
+copies-for : (n : ℕ) (g : GraphView) (m k e x : ℕ) (update : Update) → adds_copy k e x update ≡ true → stripe_of update ≡ m → HasPhaseRoom n g update
     → copies_of (row_at (get_or g.stripes m []) k).items e x ≤ 2 ^ 63
-copies-for g m k e x (AddE u v w) adds home room =
+copies-for n g m k e x (AddE u v w) adds home room =
     let outer = and_parts ((u / 64 == k) && (v == e)) (w == x) adds in
     let inner = and_parts (u / 64 == k) (v == e) outer.0 in
     let row = out_row-at g m k u home (eqb-true (u / 64) k inner.0) in
@@ -51,18 +51,18 @@ copies-for g m k e x (AddE u v w) adds home room =
   where
     same_copies : (f : ℕ → ℕ → ℕ) (e v x w : ℕ) → v ≡ e → w ≡ x → f v w ≤ 2 ^ 63 → f e x ≤ 2 ^ 63
     same_copies f e v x w a b h = rw (← a, ← b) h
-copies-for g m k e x (AddV y) adds home room = absurd (both_ways false refl adds)
-copies-for g m k e x (DelV y) adds home room = absurd (both_ways false refl adds)
-copies-for g m k e x (DelE u v w) adds home room = absurd (both_ways false refl adds)
-copies-for g m k e x (SetW u v w w2) adds home room = absurd (both_ways false refl adds)
+copies-for n g m k e x (AddV y) adds home room = absurd (both_ways false refl adds)
+copies-for n g m k e x (DelV y) adds home room = absurd (both_ways false refl adds)
+copies-for n g m k e x (DelE u v w) adds home room = absurd (both_ways false refl adds)
+copies-for n g m k e x (SetW u v w w2) adds home room = absurd (both_ways false refl adds)
 
 -- there is room in a stripe for its jobs
-pub CanCarry-ready : (g : GraphView) (js : List (List StripeJob)) → IsSound g → AreJobs js → EachJob (IsReady g) js → (m : ℕ) → m < 64
+pub CanCarry-ready : (g : GraphView) (js : List (List StripeJob)) → IsSound g → AreJobs js → EachJob (IsReady (job_count js) g) js → (m : ℕ) → m < 64
     → CanCarry (get_or g.stripes m []) (get_or js m [])
 CanCarry-ready g js sound are ready m lt =
     let jobs : List StripeJob = get_or js m [] in
     let rows : List RowView = get_or g.stripes m [] in
-    let each = ready-at g js m are ready lt in
+    let each = ready-at (job_count js) g js m are ready lt in
     let few = stripe-jobs-le js m in
     let most = job_count-le js are in
     record {
@@ -74,7 +74,7 @@ CanCarry-ready g js sound are ready m lt =
               | inl some ↦ (let found = found-count (λ (j : StripeJob). waits j && adds_at k j.update) jobs some in
                   let j = found.0 in
                   let test = and_parts (waits j) (adds_at k j.update) found.2 in
-                  let spare = spare-for g m k j.update test.1 (All-contains (IsJobOf m) jobs j (are.each m) found.1).home (All-contains (IsReady g) jobs j each found.1).room in
+                  let spare = spare-for (job_count js) g m k j.update test.1 (All-contains (IsJobOf m) jobs j (are.each m) found.1).home (All-contains (IsReady (job_count js) g) jobs j each found.1).room in
                   omega arith)
               | inr none ↦ omega arith
             ]);
@@ -83,7 +83,7 @@ CanCarry-ready g js sound are ready m lt =
             let found = found-count (λ (j : StripeJob). waits j && adds_copy k e w j.update) jobs some in
             let j = found.0 in
             let test = and_parts (waits j) (adds_copy k e w j.update) found.2 in
-            let copies = copies-for g m k e w j.update test.1 (All-contains (IsJobOf m) jobs j (are.each m) found.1).home (All-contains (IsReady g) jobs j each found.1).room in
+            let copies = copies-for (job_count js) g m k e w j.update test.1 (All-contains (IsJobOf m) jobs j (are.each m) found.1).home (All-contains (IsReady (job_count js) g) jobs j each found.1).room in
             omega arith);
       };
       limits = All-weaker (IsJobOf m) (λ j. first_past_limit (greatest_of Two) j.update ≡ None) (λ j h. h.limits) jobs (are.each m);
@@ -112,7 +112,7 @@ with_jobs-set (r ∷ t) (j ∷ js) zero jobs size lt = refl
 with_jobs-set (r ∷ t) (j ∷ js) (suc m) jobs size lt = ap (λ l. fresh r j ∷ l) (with_jobs-set t js m jobs (omega arith) (omega arith))
 
 -- a graph that was loosened is its own and the jobs' work
-pub IsWorkOf-loosened : (g : GraphView) (js : List (List StripeJob)) → IsSound g → AreJobs js → EachJob (IsReady g) js → by_stripe (in_order js) ≡ js → IsWorkOf g js (loosened g js)
+pub IsWorkOf-loosened : (g : GraphView) (js : List (List StripeJob)) → IsSound g → AreJobs js → EachJob (IsReady (job_count js) g) js → by_stripe (in_order js) ≡ js → IsWorkOf g js (loosened g js)
 IsWorkOf-loosened g js sound are ready given = record {
   sound = sound;
   jobs = are;

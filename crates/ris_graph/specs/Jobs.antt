@@ -47,6 +47,10 @@ no_jobs = replicate 64 []
 abbrev pub jobs_of : ℕ → List (List StripeJob) → ℕ
 jobs_of session js = sum_by (λ jobs. count_by (λ j. j.session == session) jobs) js
 
+-- how many jobs there are
+abbrev pub job_count : List (List StripeJob) → ℕ
+job_count js = sum_by (λ jobs. length jobs) js
+
 -- the sessions of jobs ascend
 abbrev pub AreAscending : List StripeJob → Type 0
 AreAscending jobs = AllPairs (λ i j. i.session < j.session) jobs

@@ -13,7 +13,7 @@ use Rattle.ris_base.specs.declared.updates.Update.{Update}
 use Rattle.ris_base.specs.declared.updates.Update.TheVariants.{AddV, DelV, AddE, DelE, SetW}
 use Rattle.ris_rows.specs.RowView.{RowView}
 use Rattle.ris_graph.specs.GraphView.{GraphView, out_row, in_row, vertex_in, copies_in}
-use Rattle.ris_graph.specs.Jobs.{AreJobs, EachJob, by_stripe, in_order, stripe_of}
+use Rattle.ris_graph.specs.Jobs.{AreJobs, EachJob, by_stripe, in_order, job_count, stripe_of}
 use Rattle.ris_graph.specs.Sound.{IsSound}
 use Rattle.ris_graph.specs.StripeView.{StripeView, is_applied, no_stripe, fresh, edited, declined, CanEdit, CanDecline}
 use Rattle.ris_graph.specs.declared.stripes.StripeJob.{StripeJob}
@@ -50,20 +50,20 @@ HasEnds g (AddE u v w) = IsTrue (vertex_in g u) × IsTrue (vertex_in g v)
 HasEnds g (DelE u v w) = IsTrue (vertex_in g u) × IsTrue (vertex_in g v)
 HasEnds g (SetW u v w w2) = IsTrue (vertex_in g u) × IsTrue (vertex_in g v)
 
--- where an update adds a copy, there is room for 64 inserts in both rows of its triple, which has at most 2^63 copies
-abbrev pub HasPhaseRoom : GraphView → Update → Type 0
-HasPhaseRoom g (AddE u v w) = (64 ≤ (out_row g u).spare) × (64 ≤ (in_row g v).spare) × (copies_in g (triple u v w) ≤ 2 ^ 63)
-HasPhaseRoom g (AddV x) = ⊤
-HasPhaseRoom g (DelV x) = ⊤
-HasPhaseRoom g (DelE u v w) = ⊤
-HasPhaseRoom g (SetW u v w w2) = ⊤
+-- where an update adds a copy, there is room for n inserts in both rows of its triple, which has at most 2^63 copies
+abbrev pub HasPhaseRoom : ℕ → GraphView → Update → Type 0
+HasPhaseRoom n g (AddE u v w) = (n ≤ (out_row g u).spare) × (n ≤ (in_row g v).spare) × (copies_in g (triple u v w) ≤ 2 ^ 63)
+HasPhaseRoom n g (AddV x) = ⊤
+HasPhaseRoom n g (DelV x) = ⊤
+HasPhaseRoom n g (DelE u v w) = ⊤
+HasPhaseRoom n g (SetW u v w w2) = ⊤
 
--- a job that waits, is within the graph's limits, names vertices of the graph, and has room
-pub record IsReady (g : GraphView) (j : StripeJob) : Type 0 where
+-- a job that waits, is within the graph's limits, names vertices of the graph, and has room for n inserts
+pub record IsReady (n : ℕ) (g : GraphView) (j : StripeJob) : Type 0 where
   pub waiting : j.verdict ≡ Waiting
   pub limits : first_past_limit (greatest_of g.format) j.update ≡ None
   pub ends : HasEnds g j.update
-  pub room : HasPhaseRoom g j.update
+  pub room : HasPhaseRoom n g j.update
 
 -- Edits
 
@@ -96,11 +96,12 @@ pub record Follows (old new : StripeView) : Type 0 where
   pub can : CanDo old steps
   pub is : new ≡ after_steps old steps
 
--- the graph with jobs was made from this graph and these jobs, and each of its stripes is what edits and declines made of it
+-- the graph with jobs was made from this graph and these jobs, each with room for all of them, and each of its stripes is what
+-- edits and declines made of it
 pub record IsWorkOf (g : GraphView) (js : List (List StripeJob)) (l : LooseView) : Type 0 where
   pub sound : IsSound g
   pub jobs : AreJobs js
-  pub ready : EachJob (IsReady g) js
+  pub ready : EachJob (IsReady (job_count js) g) js
   pub format : l.format ≡ g.format
   pub ins : l.ins ≡ g.ins
   pub present : l.present ≡ g.present

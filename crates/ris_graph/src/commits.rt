@@ -1,4 +1,4 @@
-ghost use Rattle.std.specs.Prelude.{◌≡◌, ◌<◌, ◌≤◌, ℕ, List, Bool, false, ◌==◌, if◌then◌else◌, length, slice_index_or};
+ghost use Rattle.std.specs.Prelude.{◌≡◌, ◌<◌, ℕ, List, false, ◌==◌, if◌then◌else◌, length, slice_index_or};
 ghost use Rattle.std.specs.List.{All, list_any};
 ghost use Rattle.ris_graph.specs.GraphView.{row_at};
 ghost use Rattle.ris_graph.specs.Putting.{ArePut, CanPut, IsPutOnce, HasPutRoom, HasRows, count_to, source_of, target_of};

@@ -1,4 +1,4 @@
-ghost use Rattle.std.specs.Prelude.{◌≡◌, ◌<◌, ◌≤◌, ◌-◌, ◌+◌, ◌^◌, ℕ, List, [], ◌∷◌, ◌++◌, IsTrue, IfOk, OnOk, OnErr, length, min};
+ghost use Rattle.std.specs.Prelude.{◌≡◌, ◌<◌, ◌≤◌, ◌-◌, ℕ, [], IsTrue, IfOk, OnOk, length};
 ghost use Rattle.std.specs.List.{All};
 ghost use Rattle.std.specs.List.Sorted.{IsPermutation};
 ghost use Rattle.ris_base.specs.Limits.{vertex_limit, greatest_of};
@@ -46,9 +46,9 @@ impl<M> Graph<M> {
     ghost use Rattle.ris_graph.specs.Appending.{CanAppend, appended};
 
     /// The graph that has the vertices below `vertices`, which are at most 4,194,304, and the triples of `base`, each
-    /// time that one stands there a copy. It sorts a copy of the triples, in linear time by source and then those of each
-    /// source in n log n, and fills each row in ascending order, in linear time. A row takes room for its neighbours
-    /// at once.
+    /// time that one stands there a copy. It sorts a copy of the triples: in linear time by ranges of targets and by
+    /// source, and then those of one range and source in n log n. So it fills each row in ascending order, in linear time.
+    /// A row takes room for its neighbours and an eighth more at once.
     pub fn start(
         alloc: Global,
         vertices: u32,
@@ -88,7 +88,7 @@ impl<M> Graph<M> {
         })
     }
 
-    /// Makes room in the two rows of each vertex for as many neighbours as its degree has. No row loses room, also where
+    /// Makes room in the two rows of each vertex for its neighbours and an eighth more. No row loses room, also where
     /// `NoMemory` comes.
     fn reserve_rows(&mut self, degrees: &[Degree]) -> Result<(), NoMemory>
         ensures { HasRoomOf self.old self.new }
@@ -97,7 +97,7 @@ impl<M> Graph<M> {
             if let Some(degree) = degrees.get(x as usize)
                 && self.has_vertex(u64::from(x))
             {
-                self.reserve(x, degree.outs, x, degree.ins)?;
+                self.reserve(x, roomy(degree.outs), x, roomy(degree.ins))?;
             }
         }
         Ok(())
@@ -189,4 +189,9 @@ impl<M> Graph<M> {
         self.outs.reserve(source, outs)?;
         self.ins.reserve(target as usize, ins)
     }
+}
+
+/// A number of neighbours and an eighth more, so that the first additions to a long row don't copy it.
+fn roomy(neighbours: u64) -> u64 {
+    neighbours.saturating_add(neighbours / 8)
 }

@@ -1,4 +1,4 @@
-ghost use Rattle.std.specs.Prelude.{◌≡◌, ◌-◌, ◌+◌, ◌≤◌, ℕ, ◌∷◌, ◌++◌, length, replicate, OnOk, OnErr, IfOk};
+ghost use Rattle.std.specs.Prelude.{◌≡◌, ◌-◌, ◌+◌, ◌≤◌, ◌++◌, length, replicate, OnOk, OnErr, IfOk};
 ghost use Rattle.ris_rows.specs.Neighbours.{IsAscending};
 ghost use Rattle.ris_graph.specs.Ticks.{ticked, IsRise};
 ghost use Rattle.ris_graph.specs.Listings.{row_triples, vertices_at, triples_at};

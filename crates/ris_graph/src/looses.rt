@@ -4,7 +4,7 @@ ghost use Rattle.ris_base.specs.declared.events.Verdict.TheVariants.{Waiting};
 ghost use Rattle.ris_graph.specs.Jobs.{AreJobs, by_stripe};
 ghost use Rattle.ris_graph.specs.Phase.{with_jobs};
 ghost use Rattle.ris_graph.specs.Settling.{HasPlaces, with_told};
-ghost use Rattle.ris_graph.specs.StripeView.{CanCarry, IsIdle, IsWhole, fresh};
+ghost use Rattle.ris_graph.specs.StripeView.{CanCarry, IsIdle, IsWhole};
 
 use crate::graphs::Graph;
 use crate::jobs::{Jobs, stripe_of};
@@ -42,14 +42,14 @@ impl<M> Model for Loose<M> {
 }
 
 impl<M> Graph<M> {
-    ghost use Rattle.ris_graph.specs.Jobs.{EachJob};
+    ghost use Rattle.ris_graph.specs.Jobs.{EachJob, job_count};
     ghost use Rattle.ris_graph.specs.Phase.{IsReady, IsWorkOf, loosened};
 
     /// Puts jobs into the stripes of a graph. Each of them waits, is within the graph's limits and names vertices of the
-    /// graph; the rows that an `AddE` touches have room for 64 inserts, and its triple has at most 2^63 copies. It takes
-    /// constant time for each job, and no memory.
+    /// graph; the rows that an `AddE` touches have room for as many inserts as there are jobs, and its triple has at most
+    /// 2^63 copies. It takes constant time for each job, and no memory.
     pub fn loosen(self, jobs: Jobs) -> Loose<M>
-        requires { EachJob (IsReady self) jobs }
+        requires { EachJob (IsReady (job_count jobs) self) jobs }
         ensures is { result ≡ loosened self jobs }
         ensures work { IsWorkOf self jobs result }
     {

@@ -1,4 +1,4 @@
-ghost use Rattle.std.specs.Prelude.{◌≡◌, ◌+◌, ◌-◌, ◌*◌, ◌^◌, ◌<◌, ◌≤◌, ℕ, length, OnOk, IfOk};
+ghost use Rattle.std.specs.Prelude.{◌≡◌, ◌-◌, ◌*◌, ◌^◌, ◌<◌, ◌≤◌, ℕ, length, OnOk, IfOk};
 ghost use Rattle.ris_rows.specs.Neighbours.{IsAscending, copies_of};
 ghost use Rattle.ris_rows.specs.RowView.{with_count, inserted};
 ghost use Rattle.ris_graph.specs.Tables.{row_of, with_row, HasRow, IsRoomier};

@@ -1,4 +1,4 @@
-ghost use Rattle.std.specs.Prelude.{◌≡◌, ◌+◌, ◌-◌, ◌^◌, ◌<◌, ◌≤◌, ℕ, [], length, slice_set, OnOk};
+ghost use Rattle.std.specs.Prelude.{◌≡◌, ◌-◌, ◌^◌, ◌<◌, ◌≤◌, ℕ, [], length, slice_set, OnOk};
 ghost use Rattle.ris_rows.specs.Neighbours.{IsAscending, copies_of};
 ghost use Rattle.ris_rows.specs.RowView.{with_count, inserted, removed};
 ghost use Rattle.ris_graph.specs.GraphView.{row_at};

@@ -14,7 +14,11 @@ pub fn grow(chains: &mut Vec<Chain>, alloc: Global, count: usize) -> Result<(), 
     ensures err { OnErr result (chains.new.items ≡ chains.old.items) }
 {
     let before = chains.len();
-    for _done in 0..count.saturating_sub(before) {
+    let missing = count.saturating_sub(before);
+    if chains.reserve(missing).is_err() {
+        return Err(NoMemory);
+    }
+    for _done in 0..missing {
         let empty = Chain::new(alloc, Held::new(0, Value::Absent, Parent::None));
         if chains.push(empty).is_err() {
             chains.truncate(before);

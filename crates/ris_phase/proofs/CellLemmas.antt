@@ -19,7 +19,7 @@ use Rattle.ris_legal.proofs.Cells.{copies-more}
 use Rattle.ris_rows.specs.Neighbours.{copies_of}
 use Rattle.ris_rows.specs.RowView.{RowView}
 use Rattle.ris_graph.specs.GraphView.{GraphView, IsOf}
-use Rattle.ris_graph.specs.Jobs.{IsJobOf, is_job, stripe_of}
+use Rattle.ris_graph.specs.Jobs.{IsJobOf, is_job, job_count, stripe_of}
 use Rattle.ris_graph.specs.Phase.{Follows, IsReady, IsWorkOf, LooseView, applied_of, stripe_at}
 use Rattle.ris_graph.specs.StripeView.{StripeView, fresh, job_at, no_job, no_stripe}
 use Rattle.ris_graph.specs.declared.stripes.StripeJob.{StripeJob}
@@ -174,13 +174,13 @@ module _ (g : GraphView) (js : List (List StripeJob)) (l : LooseView) (loosened_
       ∙ (let size = loosened_of.work.sound.sized.stripes in get_or-with_jobs g.stripes js m (size ∙ sym loosened_of.work.jobs.stripes) (omega arith))
 
   -- a job is open
-  open-job : (m : ℕ) (j : StripeJob) → IsReady g j → IsJobOf m j → IsOpen j
+  open-job : (m : ℕ) (j : StripeJob) → IsReady (job_count js) g j → IsJobOf m j → IsOpen j
   open-job m j ready of = record { waiting = rw ready.waiting refl; limits = of.limits }
 
   pub stripe-open : (m : ℕ) → m < 64 → IsUndecided (stripe_at l m)
   stripe-open m lt =
       subst IsUndecided (sym (stripe-fresh m lt))
-      (λ k d less. open-job m (get_or (get_or js m []) k d) (ready-at g js m loosened_of.work.jobs loosened_of.work.ready lt k d less) (loosened_of.work.jobs.each m k d less))
+      (λ k d less. open-job m (get_or (get_or js m []) k d) (ready-at (job_count js) g js m loosened_of.work.jobs loosened_of.work.ready lt k d less) (loosened_of.work.jobs.each m k d less))
 
   pub all-open : All IsUndecided l.stripes
   all-open = All-from_get_or IsUndecided l.stripes no_stripe (λ m lt. (let size = loosened_of.work.stripes in stripe-open m (omega arith)))

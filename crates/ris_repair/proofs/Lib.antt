@@ -1,9 +1,11 @@
 pub mod AddLemmas
 pub mod CrossLemmas
+pub mod FewLemmas
 pub mod ListedLemmas
 pub mod LocalLemmas
 pub mod MarkLemmas
 pub mod OfferLemmas
+pub mod PlaceLemmas
 pub mod PullLemmas
 pub mod PushLemmas
 pub mod QueueLemmas

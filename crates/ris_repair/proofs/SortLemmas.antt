@@ -1,10 +1,10 @@
 -- Rows of a table of changes, and rows that are sorted by their vertices.
-use Rattle.std.proofs.Common.{◌≡◌, ◌≢◌, ◌↔◌, IsTrue, ℕ, ◌<◌, ◌≤◌, eqb, inl, inr, List, [], ◌∷◌, ◌++◌, length, map, get_or, take, Option, Some, arith, sym, subst, ap, ◌∙◌}
+use Rattle.std.proofs.Common.{◌≡◌, ◌≢◌, ◌↔◌, IsTrue, ℕ, ◌<◌, ◌≤◌, eqb, inl, inr, List, [], ◌∷◌, ◌++◌, length, map, get_or, Option, Some, arith, sym, subst, ap, ◌∙◌}
 use Rattle.std.specs.List.{All, AllPairs, Contains, IsDistinct}
 use Rattle.std.specs.List.Sorted.{IsPermutation, IsNonDecreasingBy}
 use Rattle.std.specs.Map.{keys_of}
 use Rattle.std.proofs.lemmas.Bool.{cases_eq, eq-eqb, ne_eqb, both_ways as not_both}
-use Rattle.std.proofs.lemmas.List.{append_assoc, map-append, get_or-map, get_or-take, get_or_default, length-map, length-take-le}
+use Rattle.std.proofs.lemmas.List.{append_assoc, map-append, get_or-map, length-map}
 use Rattle.std.proofs.lemmas.List.Sorted.{All-permutation, Contains-permutation, IsPermutation-map}
 use Rattle.std.proofs.lemmas.Map.Keys.{apart_from_distinct, IsDistinct-IsPermutation}
 use Rattle.ris_base.specs.Forest.{Forest}
@@ -77,12 +77,3 @@ sorted_ascending ks rows sorted keys once perm order i j d low high =
   where
     strict : (a b : ℕ) → a ≤ b → ¬ (a ≡ b) → a < b
     strict a b le ne = omega arith
-
--- the rows before a place have vertices below that of the row there
-pub taken_below : (rows : List DeltaRow) (k : ℕ) (e : DeltaRow) → AllPairs (λ r later. r.vertex < later.vertex) rows → k < length rows
-    → All (λ r. r.vertex < (get_or rows k e).vertex) (take k rows)
-taken_below rows k e rising lt i d h =
-    let size : length (take k rows) ≡ k = length-take-le k rows (omega arith) in
-    let early : i < k = omega arith in
-    subst (λ (r : DeltaRow). r.vertex < (get_or rows k e).vertex) (sym (get_or-take k rows i d early))
-    (subst (λ (r : DeltaRow). (get_or rows i d).vertex < r.vertex) (get_or_default rows k d e lt) (rising i k d early lt))

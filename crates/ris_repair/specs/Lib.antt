@@ -1,8 +1,10 @@
 pub mod Changes
 pub mod Crossing
 pub mod Due
+pub mod Fews
 pub mod Marks
 pub mod Priority
 pub mod Rows
 pub mod Stages
 pub mod Stores
+pub mod Tables

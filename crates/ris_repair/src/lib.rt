@@ -4,6 +4,7 @@
 
 mod adding;
 mod deltas;
+mod fews;
 mod frontiers;
 mod marking;
 mod pulling;
@@ -11,6 +12,7 @@ mod pushing;
 mod queues;
 mod repairs;
 mod stores;
+mod tables;
 mod taking;
 
 pub use repairs::{from_scratch, repair};

@@ -128,7 +128,7 @@ impl Frontier {
             → (after : List (ℕ × ℕ)) × IsPrepared g (A.spec forest.now.algo) (forest_of forest.now.cells) vertex_limit fallen (change_at self.new.changes) after (unpulled p vertex [] rest)) }
     {
         let mut best = match self.changes.get(vertex) {
-            Some(change) => *change,
+            Some(change) => change,
             None => return Ok(()),
         };
         self.pull_rows(graph, forest, vertex, &mut best, meter);

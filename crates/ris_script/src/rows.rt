@@ -48,6 +48,7 @@ pub(crate) fn one_number(row: &ByteRecord) -> Option<u64>
 }
 
 /// The three numbers behind the first field. `None` exactly where not three fields are there, or one spells none.
+#[inline(always)]
 #[tactic(auto, using(crate::proofs::FieldLemmas::base_numbers))]
 pub(crate) fn base_numbers(row: &ByteRecord) -> Option<(u64, u64, u64)>
     ensures { option_map (λ t. t.0 ∷ t.1 ∷ t.2 ∷ []) result ≡ numbers_in 3 (drop 1 (fields_of row.now)) }

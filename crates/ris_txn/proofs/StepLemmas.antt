@@ -22,10 +22,10 @@ use Rattle.ris_txn.specs.declared.overlays.TripleNote.{TripleNote}
 -- Copies
 
 -- a graph without copies of a triple doesn't have it
-has_equal-none : (p : PlainGraph) (t : Triple) → copies p t ≡ 0 → has_equal p t ≡ false
+pub has_equal-none : (p : PlainGraph) (t : Triple) → copies p t ≡ 0 → has_equal p t ≡ false
 has_equal-none p t none = false_from_ne_true (has_equal p t) (λ e. (let some = copies-HasTriple p t (HasTriple-from_test p t e) in omega arith))
 
-has_equal-some : (p : PlainGraph) (t : Triple) → copies p t ≢ 0 → has_equal p t ≡ true
+pub has_equal-some : (p : PlainGraph) (t : Triple) → copies p t ≢ 0 → has_equal p t ≡ true
 has_equal-some p t some = has_equal-true p t (HasTriple-copies p t (omega arith))
 
 -- Limits

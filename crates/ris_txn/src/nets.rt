@@ -11,6 +11,7 @@ ghost use Rattle.ris_txn.specs.Refusals.{IsRefusal};
 
 use crate::judging::judged;
 use crate::overlays::Overlay;
+use crate::singles::single;
 use ris_base::{Meter, NoMemory, Parts, Refusal};
 use ris_graph::{Graph, Net};
 use std::alloc::Global;
@@ -20,7 +21,8 @@ use std::alloc::Global;
 /// The parts are tried one after another, each on what those before it leave. The first one that is refused decides.
 /// `NoMemory` may come in place of the refusal or of the net. The meter ticks at most once for each neighbour that a dropped
 /// vertex has in the graph, in its two rows, and not at all where a part is refused. The cost is linear in the parts and in
-/// those neighbours on average, with a binary search for each triple that a part names.
+/// those neighbours on average, with a binary search for each triple that a part names. A request whose only part adds or takes
+/// a copy of an edge is reckoned at once, without notes.
 pub fn net_of<M: Meter>(
     alloc: Global,
     graph: &Graph<M>,
@@ -34,6 +36,9 @@ pub fn net_of<M: Meter>(
     ensures rise { (p : PlainGraph) → IsOf graph.now p → IsRise (M.ticks meter.old) (M.ticks meter.new) (dropped_degrees p parts.now) }
     ensures idle { (p : PlainGraph) → IsOf graph.now p → IsSome (refusal_of p parts.now) → M.ticks meter.new ≡ M.ticks meter.old }
 {
+    if let Some(answer) = single(alloc, graph, parts, front) {
+        return answer;
+    }
     let overlay = judged(alloc, graph, parts, front)?;
     match collected(alloc, graph, overlay, meter) {
         Ok(net) => Ok(net),

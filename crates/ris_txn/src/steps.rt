@@ -10,7 +10,7 @@ use ris_base::{Triple, Update};
 use ris_graph::Graph;
 
 /// The triple of an edge whose ends are within the limit.
-fn edge(u: u64, v: u64, w: u64) -> Triple
+pub(crate) fn edge(u: u64, v: u64, w: u64) -> Triple
     requires source { u < vertex_limit }
     requires target { v < vertex_limit }
     ensures { result ≡ triple u v w }

@@ -14,12 +14,12 @@ use Rattle.ris_base.proofs.ListLemmas.{Contains-cases, Contains-first, Contains-
 use Rattle.ris_base.proofs.NumbersBelow.{Contains-numbers_below}
 use Rattle.ris_analysis.specs.Analyses.{forests_of}
 use Rattle.ris_graph.specs.GraphView.{GraphView, IsOf}
-use Rattle.ris_graph.specs.Jobs.{EachJob, HasSession, IsJob, no_jobs, stripe_of, with_job, with_session}
-use Rattle.ris_graph.specs.Phase.{IsReady, IsWork}
+use Rattle.ris_graph.specs.Jobs.{EachJob, HasSession, IsJob, job_count, no_jobs, stripe_of, with_job, with_session}
+use Rattle.ris_graph.specs.Phase.{IsReady}
 use Rattle.ris_graph.specs.StripeView.{StripeView, no_stripe}
 use Rattle.ris_graph.specs.declared.stripes.StripeJob.{StripeJob}
 use Rattle.ris_graph.proofs.JobLemmas.{AreJobs-none, IsJob-at, job-stripe, no_jobs-at, stripe_of-lt}
-use Rattle.ris_phase.specs.Cells.{IsFresh, IsLoosenedOf, celled, cells, decision, logged}
+use Rattle.ris_phase.specs.Cells.{IsLoosenedOf, celled, cells, decision, logged}
 use Rattle.ris_epoch.proofs.CandidateFacts.{added_job, each-with_job, length-with_job}
 use Rattle.ris_epoch.proofs.phase_tests.two_verdicts.Goals as goal
 
@@ -124,21 +124,22 @@ loosen-loose-requires g c =
     let one : List (List StripeJob) = with_job no_jobs 0 (AddV 0) in
     let same : c.add-2.new.self ≡ with_job one 1 (AddV 32) =
     c.add-2.ensures ∙ ap (λ (x : List (List StripeJob)). with_job x 1 (AddV 32)) (c.add.ensures ∙ ap (λ (x : List (List StripeJob)). with_job x 0 (AddV 0)) c.in_ok-jobs.ensures) in
-    let first : IsReady graph (added_job 0 (AddV 0)) = record {
+    let n = job_count c.add-2.new.self in
+    let first : IsReady n graph (added_job 0 (AddV 0)) = record {
       waiting = refl;
       limits = refl;
       ends = (c.in_ok-graph.ensures.vertices 0).1 (Contains-numbers_below 33 0 (omega arith));
       room = tt;
     } in
-    let second : IsReady graph (added_job 1 (AddV 32)) = record {
+    let second : IsReady n graph (added_job 1 (AddV 32)) = record {
       waiting = refl;
       limits = refl;
       ends = (c.in_ok-graph.ensures.vertices 32).1 (Contains-numbers_below 33 32 (omega arith));
       room = tt;
     } in
-    subst (EachJob (IsReady graph)) (sym same)
-    (each-with_job (IsReady graph) one 1 (AddV 32) (length-with_job no_jobs 0 (AddV 0) ∙ AreJobs-none.stripes)
-    (each-with_job (IsReady graph) no_jobs 0 (AddV 0) AreJobs-none.stripes (each-none (IsReady graph)) first) second)
+    subst (EachJob (IsReady n graph)) (sym same)
+    (each-with_job (IsReady n graph) one 1 (AddV 32) (length-with_job no_jobs 0 (AddV 0) ∙ AreJobs-none.stripes)
+    (each-with_job (IsReady n graph) no_jobs 0 (AddV 0) AreJobs-none.stripes (each-none (IsReady n graph)) first) second)
 
 -- the jobs that were given
 given : List (List StripeJob)

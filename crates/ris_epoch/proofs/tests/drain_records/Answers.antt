@@ -1,5 +1,4 @@
-use Rattle.std.proofs.Common.{◌≡◌, ◌∙◌, ◌∷◌, length, arith, ap, sym}
-use Rattle.ris_epoch.proofs.FirstItems.{first-rest, none-rest}
+use Rattle.std.proofs.Common.{◌∙◌}
 use Rattle.ris_epoch.proofs.tests.drain_records.Goals as goal
 
 pub records-preserved : goal.records-preserved

@@ -1,37 +1,23 @@
--- One row more.
-use Rattle.std.proofs.Common.{◌<◌, ◌∷◌, ◌++◌, [], List, false, get_or, nat_eq, sym, subst, ap, ◌∙◌}
-use Rattle.std.specs.HashMap.{get}
-use Rattle.std.specs.List.{All, AllPairs}
-use Rattle.std.proofs.lemmas.List.{take_all, take_more}
-use Rattle.ris_base.specs.declared.analyses.Value.TheVariants.{Absent}
-use Rattle.ris_base.specs.declared.forests.Parent.TheVariants as parent
+-- The rows in the order of their vertices.
+use Rattle.std.proofs.Common.{ℕ, List, Option, nat_eq, refl, sym, subst}
+use Rattle.std.specs.Cmp.{nat_eq_equiv}
+use Rattle.std.specs.HashMap.{get, keys}
+use Rattle.std.specs.List.{IsDistinct}
+use Rattle.std.specs.Option.{IsSome}
+use Rattle.std.proofs.lemmas.Bool.{eqb-true}
+use Rattle.std.proofs.lemmas.Map.Views.{hash_map_contains_key_iff}
 use Rattle.ris_forest.specs.Cells.{forest_of}
-use Rattle.ris_forest.specs.declared.deltas.DeltaRow.{DeltaRow}
-use Rattle.ris_repair.specs.Stages.{AreRowsOf}
-use Rattle.ris_repair.proofs.SortLemmas.{taken_below}
+use Rattle.ris_repair.specs.declared.stores.Change.{Change}
+use Rattle.ris_repair.proofs.SortLemmas.{sorted_whole}
 use Rattle.ris_repair.proofs.deltas.map_delta.Goals as goal
 
--- what a read past the end of rows gives
-abbrev no_row : DeltaRow
-no_row = record { vertex = 0; value = Absent; parent = parent.None; moved = false }
-
-pub push-requires : goal.push-requires
-push-requires g c =
-    let rows = c.deref-row-items.result.now in
-    let rising : AllPairs (λ r later. r.vertex < later.vertex) rows =
-    subst (λ (l : List DeltaRow). AllPairs (λ r later. r.vertex < later.vertex) l) (sym c.deref-row-items.ensures.value) c.in_ok-rows.ensures.ascending in
-    subst (λ (l : List DeltaRow). All (λ r. r.vertex < (get_or rows c.loop-row.row-index no_row).vertex) l) (sym c.loop-row.invariant)
-    (taken_below rows c.loop-row.row-index no_row rising c.loop-row-test.true)
-
-pub loop-row-preserved : goal.loop-row-preserved
-loop-row-preserved g c =
-    let rows = c.deref-row-items.result.now in
-    let row = get_or rows c.loop-row.row-index no_row in
-    c.in_ok-push.ensures.ok ∙ ap (λ (l : List DeltaRow). l ++ row ∷ []) c.loop-row.invariant ∙ sym (take_more rows c.loop-row.row-index no_row c.loop-row-test.true)
+pub sorted-requires : goal.sorted-requires
+sorted-requires g c = subst (λ (l : List ℕ). IsDistinct nat_eq l) (sym c.in_ok-rows.ensures.keys) c.rows_of.ensures.unique
 
 pub returns : goal.returns
 returns g c =
-    let rows = c.deref-row-items.result.now in
-    let whole = take_all c.loop-row.row-index rows c.loop-row-test.false in
-    subst (λ (l : List DeltaRow). AreRowsOf (forest_of c.args.forest.now.cells) (get nat_eq c.args.changes.now) l)
-    (sym (c.loop-row.invariant ∙ whole ∙ c.deref-row-items.ensures.value)) c.in_ok-rows.ensures.rows
+    let m = c.args.changes.now in
+    sorted_whole (forest_of c.args.forest.now.cells) (get nat_eq m) (keys m) c.in_ok-rows.rows.items c.sorted.result
+    c.in_ok-rows.ensures.each c.in_ok-rows.ensures.keys
+    (λ x change is. (hash_map_contains_key_iff nat_eq_equiv eqb-true m x).0 (subst (λ (o : Option Change). IsSome o) (sym is) refl))
+    c.sorted.ensures

@@ -16,15 +16,15 @@ loop-vertex-preserved g c =
     let F = forest_of c.args.forest.now.cells in
     let table = c.args.changes.now in
     let n = c.loop-vertex.vertex in
-    elim c.match-changes-vertex.branch [
+    elim c.match-get.branch [
       | in-Some+in_ok-push w ↦
           let row = w.row_of.result in
-          let made = row_made F (λ x. get_or table x None) row n w.in-Some.change w.in-Some.is w.row_of.ensures.vertex w.row_of.ensures.value w.row_of.ensures.parent w.row_of.ensures.moved in
+          let made = row_made F (λ x. get_or table x None) row n w.in-Some.change (sym w.in-Some.ensures) w.row_of.ensures.vertex w.row_of.ensures.value w.row_of.ensures.parent w.row_of.ensures.moved in
           subst (λ (l : List DeltaRow). AreListed F (λ x. get_or table x None) (n + 1) l) (sym (w.delta-is ∙ w.in_ok-push.ensures.ok))
           (listed_more F (λ x. get_or table x None) n c.loop-vertex.delta c.loop-vertex.invariant row made w.row_of.ensures.vertex)
       | in_default w ↦
           subst (λ (l : List DeltaRow). AreListed F (λ x. get_or table x None) (n + 1) l) (sym w.delta-is)
-          (listed_past F (λ x. get_or table x None) n c.loop-vertex.delta c.loop-vertex.invariant w.in_default.is)
+          (listed_past F (λ x. get_or table x None) n c.loop-vertex.delta c.loop-vertex.invariant (sym c.get.ensures ∙ w.in_default.is))
     ]
 
 pub returns : goal.returns

@@ -30,3 +30,6 @@ returns-in-Err-clause-visits g c = λ p of.
 
 pub returns-in-Err-clause-rise : goal.returns-in-Err-clause-rise
 returns-in-Err-clause-rise g c = λ p of. c.collected.ensures.rise p c.args.parts.now of c.in_ok-overlay.ensures.ok
+
+pub returns-in-Some-clause-rise : goal.returns-in-Some-clause-rise
+returns-in-Some-clause-rise g c = λ p of. IsRise-none (g.M.Meter.ticks c.args.meter.now) (dropped_degrees p c.args.parts.now)

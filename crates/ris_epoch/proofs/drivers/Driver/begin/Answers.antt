@@ -27,12 +27,12 @@ pub returns-in-Release-clause-begun : goal.returns-in-Release-clause-begun
 returns-in-Release-clause-begun g c base records done h next =
     let other : is_candidate_behind base records c.args.request ≡ false = ap (is_candidate_behind base records) c.in-Release.is in
     let waits : inserted_by session_by c.args.rest.now c.args.request ≡ c.add.new.self = ap (inserted_by session_by c.args.rest.now) c.in-Release.is ∙ sym c.add.ensures in
-    subst (λ (rs : List Request). HasBegun base records (done ++ c.args.request ∷ []) c.args.self.now c.args.candidates.now rs) waits
+    subst (λ (rs : List Request). HasBegun base records c.args.inserts (done ++ c.args.request ∷ []) c.args.self.now c.args.candidates.now rs) waits
     (begun-other base records done c.args.self.now c.args.candidates.now c.args.rest.now h c.args.request next other)
 
 pub returns-in-Leave-clause-begun : goal.returns-in-Leave-clause-begun
 returns-in-Leave-clause-begun g c base records done h next =
     let other : is_candidate_behind base records c.args.request ≡ false = ap (is_candidate_behind base records) c.in-Leave.is in
     let waits : inserted_by session_by c.args.rest.now c.args.request ≡ c.add-in-Leave.new.self = ap (inserted_by session_by c.args.rest.now) c.in-Leave.is ∙ sym c.add-in-Leave.ensures in
-    subst (λ (rs : List Request). HasBegun base records (done ++ c.args.request ∷ []) c.args.self.now c.args.candidates.now rs) waits
+    subst (λ (rs : List Request). HasBegun base records c.args.inserts (done ++ c.args.request ∷ []) c.args.self.now c.args.candidates.now rs) waits
     (begun-other base records done c.args.self.now c.args.candidates.now c.args.rest.now h c.args.request next other)

@@ -55,8 +55,8 @@ returns-in_default-candidate_update-clause-begun g c base records done h next =
     let is : is_candidate_behind base records (request.Submit c.args.entry) ≡ false = candidate-stands D base records c.args.entry false h.stands
     (subst (λ (ones : List AnyForest). is_candidate p (specs_of ones) (forests_of ones) c.args.entry.parts ≡ false) (ap (λ (d : DriverView). d.analyses) c.self.view_is)
     (c.in_default-candidate_update.ensures p of)) in
-    subst (λ (rs : List Request). HasBegun base records (done ++ request.Submit c.args.entry ∷ []) (seen (Some c.in-Some.graph)) c.args.candidates.now rs) (sym c.add.ensures)
-    (subst (λ (d : DriverView). HasBegun base records (done ++ request.Submit c.args.entry ∷ []) d c.args.candidates.now (inserted_by session_by c.args.rest.now (request.Submit c.args.entry))) same
+    subst (λ (rs : List Request). HasBegun base records c.args.inserts (done ++ request.Submit c.args.entry ∷ []) (seen (Some c.in-Some.graph)) c.args.candidates.now rs) (sym c.add.ensures)
+    (subst (λ (d : DriverView). HasBegun base records c.args.inserts (done ++ request.Submit c.args.entry ∷ []) d c.args.candidates.now (inserted_by session_by c.args.rest.now (request.Submit c.args.entry))) same
     (begun-other base records done D c.args.candidates.now c.args.rest.now h (request.Submit c.args.entry) next is))
 
 pub equipped-requires : goal.equipped-requires
@@ -156,7 +156,7 @@ returns-after-self-2-clause-begun g c base records done h next =
     let spare = ap (λ (d : DriverView). d.journal.spare) c.self.view_is in
     let up = c.equipped.ensures.capacity in
     let more = c.equipped.ensures.spare in
-    let begun : HasBegun base records done roomy c.args.candidates.now c.args.rest.now =
+    let begun : HasBegun base records c.args.inserts done roomy c.args.candidates.now c.args.rest.now =
     begun-room base records done D c.args.candidates.now c.args.rest.now h roomy
     (subst (λ (x : GraphView). HasRoomOf x c.equipped.new.graph) (sym same_graph) c.equipped.ensures.graph)
     (ap (λ (d : DriverView). d.jobs) c.self.view_is) (ap (λ (d : DriverView). d.analyses) c.self.view_is)
@@ -169,7 +169,7 @@ returns-after-self-2-clause-begun g c base records done h next =
     let yes = ap (λ (parts : List Update). is_candidate p (specs_of c.self.inside.analyses) (forests_of c.self.inside.analyses) parts) (sym both.0) ∙ both.1 in
     let update : Update = c.in-Some-candidate_update.update in
     let sound = sound-of p (specs_of c.self.inside.analyses) (forests_of c.self.inside.analyses) update yes in
-    let ready = sound-ready c.in-Some.graph c.equipped.new.graph p c.args.entry.session update of c.equipped.ensures.graph sound c.in-Ok.ensures.rows in
+    let ready = sound-ready c.args.inserts c.in-Some.graph c.equipped.new.graph p c.args.entry.session update of c.equipped.ensures.graph sound c.in-Ok.ensures.rows in
     let lines = c.in-Ok.ensures.room in
     let size = c.len-lines.ensures in
     let next_view : DriverView = record roomy { jobs = with_job roomy.jobs c.args.entry.session update } in
@@ -177,13 +177,13 @@ returns-after-self-2-clause-begun g c base records done h next =
     (let all = lines.0 in omega arith) (let all = lines.1 in omega arith) in
     let placed : inserted_by stripe_by_entry c.args.candidates.now c.args.entry ≡ c.add-in-Ok.new.self =
     ap (λ (e : Entry). inserted_by stripe_by_entry c.args.candidates.now e) (sym c.in-Ok.ensures.candidate) ∙ sym c.add-in-Ok.ensures in
-    let held = subst (λ (order : List Entry). HasBegun base records (done ++ request.Submit c.args.entry ∷ []) next_view order c.args.rest.now) placed given in
+    let held = subst (λ (order : List Entry). HasBegun base records c.args.inserts (done ++ request.Submit c.args.entry ∷ []) next_view order c.args.rest.now) placed given in
     elim c.match-self-2.branch [
       | in-Some-jobs w ↦
           let jobs : with_job roomy.jobs c.args.entry.session update ≡ w.add-in-Some-jobs.new.self =
           ap (λ (o : Option (List (List StripeJob))). with_job (unwrap_or o no_jobs) c.args.entry.session update) w.in-Some-jobs.is ∙ sym w.add-in-Some-jobs.ensures in
-          subst (λ (i : _). HasBegun base records (done ++ request.Submit c.args.entry ∷ []) (the_view (param 0 g.row.M) i) c.add-in-Ok.new.self c.args.rest.now) (sym w.self-inside-is)
-          (subst (λ (js : List (List StripeJob)). HasBegun base records (done ++ request.Submit c.args.entry ∷ []) (record roomy { jobs = js }) c.add-in-Ok.new.self c.args.rest.now) jobs held)
+          subst (λ (i : _). HasBegun base records c.args.inserts (done ++ request.Submit c.args.entry ∷ []) (the_view (param 0 g.row.M) i) c.add-in-Ok.new.self c.args.rest.now) (sym w.self-inside-is)
+          (subst (λ (js : List (List StripeJob)). HasBegun base records c.args.inserts (done ++ request.Submit c.args.entry ∷ []) (record roomy { jobs = js }) c.add-in-Ok.new.self c.args.rest.now) jobs held)
       | in_default-jobs w ↦ absurd (let some = c.self.invariant.1 in grind arith)
     ]
 
@@ -210,7 +210,7 @@ returns-in-Err-clause-begun g c base records done h next =
     let spare = ap (λ (d : DriverView). d.journal.spare) c.self.view_is in
     let up = c.equipped.ensures.capacity in
     let more = c.equipped.ensures.spare in
-    let begun : HasBegun base records done roomy c.args.candidates.now c.args.rest.now =
+    let begun : HasBegun base records c.args.inserts done roomy c.args.candidates.now c.args.rest.now =
     begun-room base records done D c.args.candidates.now c.args.rest.now h roomy
     (subst (λ (x : GraphView). HasRoomOf x c.equipped.new.graph) (sym same_graph) c.equipped.ensures.graph)
     (ap (λ (d : DriverView). d.jobs) c.self.view_is) (ap (λ (d : DriverView). d.analyses) c.self.view_is)

@@ -10,17 +10,29 @@ use Rattle.ris_base.specs.declared.graphs.PlainGraph.{PlainGraph}
 use Rattle.ris_base.specs.declared.lines.Line.{Line}
 use Rattle.ris_base.specs.declared.records.Record.{Record}
 use Rattle.ris_graph.specs.GraphView.{GraphView, IsOf}
-use Rattle.ris_graph.specs.Jobs.{no_jobs}
+use Rattle.ris_graph.specs.Jobs.{EachJob, job_count, no_jobs}
+use Rattle.ris_graph.specs.Phase.{IsReady}
 use Rattle.ris_graph.specs.declared.stripes.StripeJob.{StripeJob}
 use Rattle.ris_phase.specs.Cells.{cells, logs}
 use Rattle.ris_epoch.specs.Account.{records_of}
 use Rattle.ris_epoch.specs.Driving.{all_resolved, resolved_of}
 use Rattle.ris_epoch.specs.DriverView.{DriverView, no_graph}
 use Rattle.ris_epoch.specs.Sealing.{all_told, outcomes_if, records_if}
-use Rattle.ris_epoch.proofs.BatchSteps.{begun-batch, begun-counts}
+use Rattle.ris_epoch.proofs.BatchSteps.{begun-batch, begun-counts, begun-ready}
 use Rattle.ris_epoch.proofs.OrderingLemmas.{ordered-length}
 use Rattle.ris_epoch.proofs.SealedTurns.{IsSealOf, jobs-held, sealed}
 use Rattle.ris_epoch.proofs.drivers.Driver.decide.Goals as goal
+
+pub decided-graph-requires-clause-ready : goal.decided-graph-requires-clause-ready
+decided-graph-requires-clause-ready g c κs within =
+    let D : DriverView = c.args.self.now in
+    let same_graph : D.graph ≡ c.in-Some.graph = sym (ap (λ (d : DriverView). d.graph) c.self.view_is) ∙ ap (λ (o : Option GraphView). unwrap_or o no_graph) (sym c.in-Some.ensures.value) in
+    let same_jobs : D.jobs ≡ c.in-Some-take.jobs =
+    sym (ap (λ (d : DriverView). d.jobs) c.self.view_is) ∙ ap (λ (o : Option (List (List StripeJob))). unwrap_or o no_jobs) (sym c.in-Some-take.ensures.value) in
+    let some = c.requires.begun.1 in
+    let ready = begun-ready some.base some.records c.requires.begun.0 D c.args.candidates.now c.args.rest.now some.of (omega arith) in
+    subst (λ (x : GraphView). EachJob (IsReady (job_count c.in-Some-take.jobs) x) c.in-Some-take.jobs) same_graph
+    (subst (λ (js : List (List StripeJob)). EachJob (IsReady (job_count js) D.graph) js) same_jobs ready)
 
 pub seal_all-requires-clause-jobs : goal.seal_all-requires-clause-jobs
 seal_all-requires-clause-jobs g c =

@@ -10,7 +10,7 @@ abbrev pub invariant-begins : goal.invariant-begins
 invariant-begins g l = record {
   done : List Request;
   is : l.fn.requests ≡ done ++ l.requests;
-  all : (ground : Ground) (records : List Record) → StandsFor l.fn.self ground records → HasBegun ground records done l.self l.candidates l.rest;
+  all : (ground : Ground) (records : List Record) → StandsFor l.fn.self ground records → HasBegun ground records (length l.fn.requests) done l.self l.candidates l.rest;
   lines : l.self.journal.lines ≡ l.fn.self.journal.lines;
   opening : l.self.opening ≡ l.fn.self.opening;
 }

@@ -18,8 +18,8 @@ overflow_cast-tail g c =
     let rest = c.split.new.rest in
     let taken : IsTaken batch c.args.self.now = record { ordered = subst (AreOrdered 0) c.batch.view_is c.batch.invariant.0; here = c.requires.here } in
     let begun = λ (base : Ground) (records : List Record) (stands : StandsFor c.args.self.now base records).
-    subst (λ (rs : List Request). HasBegun base records rs m order rest) c.batch.view_is (c.split.ensures.begun base records stands) in
-    let some : IsBegun batch m order rest = subst (λ (rs : List Request). IsBegun rs m order rest) c.batch.view_is c.split.ensures.some in
+    subst (λ (rs : List Request). HasBegun base records (length rs) rs m order rest) c.batch.view_is (c.split.ensures.begun base records stands) in
+    let some : IsBegun (length batch) batch m order rest = subst (λ (rs : List Request). IsBegun (length rs) rs m order rest) c.batch.view_is c.split.ensures.some in
     let at : IsAtTail batch c.args.self.now c.if-len-gt0.self c.if-len-gt0.batch-inside.rest = elim c.if-len-gt0.branch [
       | then-len-gt0 w ↦ rw (w.self-is, w.batch-inside-is) (at-seal batch c.args.self.now m w.decide.new.self order rest w.decide.new.rest taken begun some c.split.ensures.lines
           c.split.ensures.opening w.decide.ensures.sealed w.decide.ensures.counts w.decide.ensures.fronts w.decide.ensures.opening)
@@ -37,8 +37,8 @@ handle_all-requires-clause-here g c κs within =
     let rest = c.split.new.rest in
     let taken : IsTaken batch c.args.self.now = record { ordered = subst (AreOrdered 0) c.batch.view_is c.batch.invariant.0; here = c.requires.here } in
     let begun = λ (base : Ground) (records : List Record) (stands : StandsFor c.args.self.now base records).
-    subst (λ (rs : List Request). HasBegun base records rs m order rest) c.batch.view_is (c.split.ensures.begun base records stands) in
-    let some : IsBegun batch m order rest = subst (λ (rs : List Request). IsBegun rs m order rest) c.batch.view_is c.split.ensures.some in
+    subst (λ (rs : List Request). HasBegun base records (length rs) rs m order rest) c.batch.view_is (c.split.ensures.begun base records stands) in
+    let some : IsBegun (length batch) batch m order rest = subst (λ (rs : List Request). IsBegun (length rs) rs m order rest) c.batch.view_is c.split.ensures.some in
     let at : IsAtTail batch c.args.self.now c.if-len-gt0.self c.if-len-gt0.batch-inside.rest = elim c.if-len-gt0.branch [
       | then-len-gt0 w ↦ rw (w.self-is, w.batch-inside-is) (at-seal batch c.args.self.now m w.decide.new.self order rest w.decide.new.rest taken begun some c.split.ensures.lines
           c.split.ensures.opening w.decide.ensures.sealed w.decide.ensures.counts w.decide.ensures.fronts w.decide.ensures.opening)
@@ -54,8 +54,8 @@ handle_all-requires-clause-few g c κs within =
     let rest = c.split.new.rest in
     let taken : IsTaken batch c.args.self.now = record { ordered = subst (AreOrdered 0) c.batch.view_is c.batch.invariant.0; here = c.requires.here } in
     let begun = λ (base : Ground) (records : List Record) (stands : StandsFor c.args.self.now base records).
-    subst (λ (rs : List Request). HasBegun base records rs m order rest) c.batch.view_is (c.split.ensures.begun base records stands) in
-    let some : IsBegun batch m order rest = subst (λ (rs : List Request). IsBegun rs m order rest) c.batch.view_is c.split.ensures.some in
+    subst (λ (rs : List Request). HasBegun base records (length rs) rs m order rest) c.batch.view_is (c.split.ensures.begun base records stands) in
+    let some : IsBegun (length batch) batch m order rest = subst (λ (rs : List Request). IsBegun (length rs) rs m order rest) c.batch.view_is c.split.ensures.some in
     let at : IsAtTail batch c.args.self.now c.if-len-gt0.self c.if-len-gt0.batch-inside.rest = elim c.if-len-gt0.branch [
       | then-len-gt0 w ↦ rw (w.self-is, w.batch-inside-is) (at-seal batch c.args.self.now m w.decide.new.self order rest w.decide.new.rest taken begun some c.split.ensures.lines
           c.split.ensures.opening w.decide.ensures.sealed w.decide.ensures.counts w.decide.ensures.fronts w.decide.ensures.opening)
@@ -73,8 +73,8 @@ handle_all-requires-clause-room g c κs within =
     let rest = c.split.new.rest in
     let taken : IsTaken batch c.args.self.now = record { ordered = subst (AreOrdered 0) c.batch.view_is c.batch.invariant.0; here = c.requires.here } in
     let begun = λ (base : Ground) (records : List Record) (stands : StandsFor c.args.self.now base records).
-    subst (λ (rs : List Request). HasBegun base records rs m order rest) c.batch.view_is (c.split.ensures.begun base records stands) in
-    let some : IsBegun batch m order rest = subst (λ (rs : List Request). IsBegun rs m order rest) c.batch.view_is c.split.ensures.some in
+    subst (λ (rs : List Request). HasBegun base records (length rs) rs m order rest) c.batch.view_is (c.split.ensures.begun base records stands) in
+    let some : IsBegun (length batch) batch m order rest = subst (λ (rs : List Request). IsBegun (length rs) rs m order rest) c.batch.view_is c.split.ensures.some in
     let at : IsAtTail batch c.args.self.now c.if-len-gt0.self c.if-len-gt0.batch-inside.rest = elim c.if-len-gt0.branch [
       | then-len-gt0 w ↦ rw (w.self-is, w.batch-inside-is) (at-seal batch c.args.self.now m w.decide.new.self order rest w.decide.new.rest taken begun some c.split.ensures.lines
           c.split.ensures.opening w.decide.ensures.sealed w.decide.ensures.counts w.decide.ensures.fronts w.decide.ensures.opening)
@@ -92,8 +92,8 @@ overflow_sub-entries g c =
     let rest = c.split.new.rest in
     let taken : IsTaken batch c.args.self.now = record { ordered = subst (AreOrdered 0) c.batch.view_is c.batch.invariant.0; here = c.requires.here } in
     let begun = λ (base : Ground) (records : List Record) (stands : StandsFor c.args.self.now base records).
-    subst (λ (rs : List Request). HasBegun base records rs m order rest) c.batch.view_is (c.split.ensures.begun base records stands) in
-    let some : IsBegun batch m order rest = subst (λ (rs : List Request). IsBegun rs m order rest) c.batch.view_is c.split.ensures.some in
+    subst (λ (rs : List Request). HasBegun base records (length rs) rs m order rest) c.batch.view_is (c.split.ensures.begun base records stands) in
+    let some : IsBegun (length batch) batch m order rest = subst (λ (rs : List Request). IsBegun (length rs) rs m order rest) c.batch.view_is c.split.ensures.some in
     let at : IsAtTail batch c.args.self.now c.if-len-gt0.self c.if-len-gt0.batch-inside.rest = elim c.if-len-gt0.branch [
       | then-len-gt0 w ↦ rw (w.self-is, w.batch-inside-is) (at-seal batch c.args.self.now m w.decide.new.self order rest w.decide.new.rest taken begun some c.split.ensures.lines
           c.split.ensures.opening w.decide.ensures.sealed w.decide.ensures.counts w.decide.ensures.fronts w.decide.ensures.opening)
@@ -111,8 +111,8 @@ overflow_cast-entries g c =
     let rest = c.split.new.rest in
     let taken : IsTaken batch c.args.self.now = record { ordered = subst (AreOrdered 0) c.batch.view_is c.batch.invariant.0; here = c.requires.here } in
     let begun = λ (base : Ground) (records : List Record) (stands : StandsFor c.args.self.now base records).
-    subst (λ (rs : List Request). HasBegun base records rs m order rest) c.batch.view_is (c.split.ensures.begun base records stands) in
-    let some : IsBegun batch m order rest = subst (λ (rs : List Request). IsBegun rs m order rest) c.batch.view_is c.split.ensures.some in
+    subst (λ (rs : List Request). HasBegun base records (length rs) rs m order rest) c.batch.view_is (c.split.ensures.begun base records stands) in
+    let some : IsBegun (length batch) batch m order rest = subst (λ (rs : List Request). IsBegun (length rs) rs m order rest) c.batch.view_is c.split.ensures.some in
     let at : IsAtTail batch c.args.self.now c.if-len-gt0.self c.if-len-gt0.batch-inside.rest = elim c.if-len-gt0.branch [
       | then-len-gt0 w ↦ rw (w.self-is, w.batch-inside-is) (at-seal batch c.args.self.now m w.decide.new.self order rest w.decide.new.rest taken begun some c.split.ensures.lines
           c.split.ensures.opening w.decide.ensures.sealed w.decide.ensures.counts w.decide.ensures.fronts w.decide.ensures.opening)
@@ -131,8 +131,8 @@ returns-clause-epoch g c =
     let rest = c.split.new.rest in
     let taken : IsTaken batch c.args.self.now = record { ordered = subst (AreOrdered 0) c.batch.view_is c.batch.invariant.0; here = c.requires.here } in
     let begun = λ (base : Ground) (records : List Record) (stands : StandsFor c.args.self.now base records).
-    subst (λ (rs : List Request). HasBegun base records rs m order rest) c.batch.view_is (c.split.ensures.begun base records stands) in
-    let some : IsBegun batch m order rest = subst (λ (rs : List Request). IsBegun rs m order rest) c.batch.view_is c.split.ensures.some in
+    subst (λ (rs : List Request). HasBegun base records (length rs) rs m order rest) c.batch.view_is (c.split.ensures.begun base records stands) in
+    let some : IsBegun (length batch) batch m order rest = subst (λ (rs : List Request). IsBegun (length rs) rs m order rest) c.batch.view_is c.split.ensures.some in
     let at : IsAtTail batch c.args.self.now c.if-len-gt0.self c.if-len-gt0.batch-inside.rest = elim c.if-len-gt0.branch [
       | then-len-gt0 w ↦ rw (w.self-is, w.batch-inside-is) (at-seal batch c.args.self.now m w.decide.new.self order rest w.decide.new.rest taken begun some c.split.ensures.lines
           c.split.ensures.opening w.decide.ensures.sealed w.decide.ensures.counts w.decide.ensures.fronts w.decide.ensures.opening)
@@ -150,8 +150,8 @@ returns-clause-order g c =
     let rest = c.split.new.rest in
     let taken : IsTaken batch c.args.self.now = record { ordered = subst (AreOrdered 0) c.batch.view_is c.batch.invariant.0; here = c.requires.here } in
     let begun = λ (base : Ground) (records : List Record) (stands : StandsFor c.args.self.now base records).
-    subst (λ (rs : List Request). HasBegun base records rs m order rest) c.batch.view_is (c.split.ensures.begun base records stands) in
-    let some : IsBegun batch m order rest = subst (λ (rs : List Request). IsBegun rs m order rest) c.batch.view_is c.split.ensures.some in
+    subst (λ (rs : List Request). HasBegun base records (length rs) rs m order rest) c.batch.view_is (c.split.ensures.begun base records stands) in
+    let some : IsBegun (length batch) batch m order rest = subst (λ (rs : List Request). IsBegun (length rs) rs m order rest) c.batch.view_is c.split.ensures.some in
     let at : IsAtTail batch c.args.self.now c.if-len-gt0.self c.if-len-gt0.batch-inside.rest = elim c.if-len-gt0.branch [
       | then-len-gt0 w ↦ rw (w.self-is, w.batch-inside-is) (at-seal batch c.args.self.now m w.decide.new.self order rest w.decide.new.rest taken begun some c.split.ensures.lines
           c.split.ensures.opening w.decide.ensures.sealed w.decide.ensures.counts w.decide.ensures.fronts w.decide.ensures.opening)
@@ -169,8 +169,8 @@ returns-clause-entries g c =
     let rest = c.split.new.rest in
     let taken : IsTaken batch c.args.self.now = record { ordered = subst (AreOrdered 0) c.batch.view_is c.batch.invariant.0; here = c.requires.here } in
     let begun = λ (base : Ground) (records : List Record) (stands : StandsFor c.args.self.now base records).
-    subst (λ (rs : List Request). HasBegun base records rs m order rest) c.batch.view_is (c.split.ensures.begun base records stands) in
-    let some : IsBegun batch m order rest = subst (λ (rs : List Request). IsBegun rs m order rest) c.batch.view_is c.split.ensures.some in
+    subst (λ (rs : List Request). HasBegun base records (length rs) rs m order rest) c.batch.view_is (c.split.ensures.begun base records stands) in
+    let some : IsBegun (length batch) batch m order rest = subst (λ (rs : List Request). IsBegun (length rs) rs m order rest) c.batch.view_is c.split.ensures.some in
     let at : IsAtTail batch c.args.self.now c.if-len-gt0.self c.if-len-gt0.batch-inside.rest = elim c.if-len-gt0.branch [
       | then-len-gt0 w ↦ rw (w.self-is, w.batch-inside-is) (at-seal batch c.args.self.now m w.decide.new.self order rest w.decide.new.rest taken begun some c.split.ensures.lines
           c.split.ensures.opening w.decide.ensures.sealed w.decide.ensures.counts w.decide.ensures.fronts w.decide.ensures.opening)
@@ -188,8 +188,8 @@ returns-clause-tail g c =
     let rest = c.split.new.rest in
     let taken : IsTaken batch c.args.self.now = record { ordered = subst (AreOrdered 0) c.batch.view_is c.batch.invariant.0; here = c.requires.here } in
     let begun = λ (base : Ground) (records : List Record) (stands : StandsFor c.args.self.now base records).
-    subst (λ (rs : List Request). HasBegun base records rs m order rest) c.batch.view_is (c.split.ensures.begun base records stands) in
-    let some : IsBegun batch m order rest = subst (λ (rs : List Request). IsBegun rs m order rest) c.batch.view_is c.split.ensures.some in
+    subst (λ (rs : List Request). HasBegun base records (length rs) rs m order rest) c.batch.view_is (c.split.ensures.begun base records stands) in
+    let some : IsBegun (length batch) batch m order rest = subst (λ (rs : List Request). IsBegun (length rs) rs m order rest) c.batch.view_is c.split.ensures.some in
     let at : IsAtTail batch c.args.self.now c.if-len-gt0.self c.if-len-gt0.batch-inside.rest = elim c.if-len-gt0.branch [
       | then-len-gt0 w ↦ rw (w.self-is, w.batch-inside-is) (at-seal batch c.args.self.now m w.decide.new.self order rest w.decide.new.rest taken begun some c.split.ensures.lines
           c.split.ensures.opening w.decide.ensures.sealed w.decide.ensures.counts w.decide.ensures.fronts w.decide.ensures.opening)

@@ -2,7 +2,7 @@ use Rattle.std.proofs.Common.{◌≡◌, ◌∙◌, List, [], length, get_or, sy
 use Rattle.std.proofs.lemmas.List.{length-map}
 use Rattle.ris_rows.specs.RowView.{RowView}
 use Rattle.ris_graph.specs.GraphView.{GraphView}
-use Rattle.ris_graph.specs.Jobs.{AreAscending, AreJobs, EachJob, by_stripe, in_order}
+use Rattle.ris_graph.specs.Jobs.{AreAscending, AreJobs, EachJob, by_stripe, in_order, job_count}
 use Rattle.ris_graph.specs.Phase.{IsReady, IsWorkOf, LooseView, loosened, with_jobs}
 use Rattle.ris_graph.specs.StripeView.{CanCarry, StripeView}
 use Rattle.ris_graph.specs.declared.stripes.StripeJob.{StripeJob}
@@ -20,7 +20,7 @@ load-requires-clause-few g c =
 pub load-requires-clause-fit : goal.load-requires-clause-fit
 load-requires-clause-fit g c m lt =
     let now : GraphView = record { format = c.self.inside.format; stripes = c.self.inside.outs; ins = c.self.inside.ins; present = c.self.inside.present.items } in
-    let ready = subst (λ (v : GraphView). EachJob (IsReady v) c.args.jobs) (sym c.self.view_is) c.requires in
+    let ready = subst (λ (v : GraphView). EachJob (IsReady (job_count c.args.jobs) v) c.args.jobs) (sym c.self.view_is) c.requires in
     let are = subst AreJobs c.jobs.view_is c.jobs.invariant.0 in
     let fit = CanCarry-ready now c.args.jobs c.self.invariant are ready m lt in
     subst (λ (jobs : List StripeJob). CanCarry (get_or (rows_of c.outs.inside.stripes.items) m []) (get_or (by_stripe jobs) m [])) (sym c.deref.ensures.value)
@@ -55,7 +55,7 @@ pub returns-clause-work : goal.returns-clause-work
 returns-clause-work g c =
     let now : GraphView = record { format = c.self.inside.format; stripes = c.self.inside.outs; ins = c.self.inside.ins; present = c.self.inside.present.items } in
     let jobs = c.args.jobs in
-    let ready = subst (λ (v : GraphView). EachJob (IsReady v) c.args.jobs) (sym c.self.view_is) c.requires in
+    let ready = subst (λ (v : GraphView). EachJob (IsReady (job_count c.args.jobs) v) c.args.jobs) (sym c.self.view_is) c.requires in
     let are = subst AreJobs c.jobs.view_is c.jobs.invariant.0 in
     let given = ap by_stripe (sym (in-order c.jobs.inside.jobs.items c.args.jobs c.jobs.invariant.2 c.jobs.invariant.0 c.jobs.view_is)) ∙ c.jobs.view_is in
     subst (IsWorkOf c.args.self jobs) (sym (returns-clause-is g c))

@@ -23,7 +23,7 @@ returns-in_ok-put-clause-kept g c = λ p graph fallen rest queue of has start.
     let x = c.args.vertex in
     let after = c.pull_rows.ensures.kept p graph fallen rest queue of has
     (subst (λ (t : ℕ → Option Change). IsPrepared graph spec F vertex_limit fallen t queue (unpulled p x (origins_of g.A.Monotone.BOTH_WAYS c.args.graph.now x) rest))
-    (sym (with_same f x c.in-Some.change.now (sym c.in-Some.ensures))) start) in (
+    (sym (with_same f x c.in-Some.change (sym c.in-Some.ensures))) start) in (
       after.0,
       subst (λ (t : ℕ → Option Change). IsPrepared graph spec F vertex_limit fallen t after.0 (unpulled p x [] rest))
           (with_from f x c.pull_rows.new.best (change_at c.put.new.self.changes) c.in_ok-put.ensures.here c.in_ok-put.ensures.others) after.1,
@@ -35,7 +35,7 @@ returns-in_default g c =
     let F = forest_of c.args.forest.now.cells in
     let f = change_at c.args.self.now.changes in
     let x = c.args.vertex in
-    let first = c.in-Some.change.now in
+    let first = c.in-Some.change in
     let at : f x ≡ Some first = sym c.in-Some.ensures in
     let same : c.pull_rows.new.best ≡ first = c.pull_rows.ensures.unchanged (no_number c.pull_rows.new.best.value c.in_default.not-Num) in
     let whole = with_same f x first at in
