@@ -13,7 +13,7 @@ use std::collections::HashMap;
 use std::marker::Model;
 
 /// How many changes a store keeps in a list, before it goes over to a map.
-pub(crate) const FEW_LIMIT: usize = 16;
+pub(crate) const FEW_LIMIT: usize = 8;
 
 /// For how many changes a map makes room, when it gets those of a list.
 const MAP_ROOM: usize = 64;

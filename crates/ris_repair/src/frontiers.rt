@@ -54,8 +54,46 @@ impl Frontier {
         Ok(Frontier { changes, queue })
     }
 
+    /// Whether the vertex `end` isn't settled and this number is better than what it has.
+    #[inline(always)]
+    fn takes<A: Monotone>(&self, forest: &Forest<A>, end: u32, number: u64) -> bool
+        ensures { result ≡ is_better (A.spec forest.now.algo).kind (forest_of forest.now.cells) (change_at self.now.changes) end number }
+    {
+        let present = match self.changes.get(end) {
+            Some(change) if change.settled => return false,
+            Some(change) => change.value,
+            None => forest.value(end as u64),
+        };
+        wins(forest.algo(), number, present)
+    }
+
+    /// Gives the vertex `end` this number, which is better than what it has, and this parent, and lets it wait.
+    #[inline(never)]
+    fn improve<A: Monotone>(
+        &mut self,
+        forest: &Forest<A>,
+        end: u32,
+        number: u64,
+        parent: Parent,
+    ) -> Result<(), NoMemory>
+        requires { is_better (A.spec forest.now.algo).kind (forest_of forest.now.cells) (change_at self.old.changes) end number ≡ true }
+        ensures improved { OnOk result (IsImproved (A.spec forest.now.algo).kind (change_at self.old.changes) self.old.queue end number parent (change_at self.new.changes) self.new.queue) }
+        ensures settled { KeepsSettled (change_at self.old.changes) (change_at self.new.changes) }
+        ensures below { (n : ℕ) → end < n → AreBelow n (change_at self.old.changes) → AreBelow n (change_at self.new.changes) }
+    {
+        let change = Change {
+            value: Value::Num(number),
+            parent,
+            settled: false,
+        };
+        self.changes.insert(end, change)?;
+        self.queue.push(priority(forest.algo(), number), end)?;
+        Ok(())
+    }
+
     /// Gives the vertex `end` this number and this parent, where it isn't settled and the number is better than what it
     /// has, and lets it wait.
+    #[inline(always)]
     pub(crate) fn offer<A: Monotone>(
         &mut self,
         forest: &Forest<A>,
@@ -70,19 +108,8 @@ impl Frontier {
         ensures settled { KeepsSettled (change_at self.old.changes) (change_at self.new.changes) }
         ensures below { (n : ℕ) → end < n → AreBelow n (change_at self.old.changes) → AreBelow n (change_at self.new.changes) }
     {
-        let present = match self.changes.get(end) {
-            Some(change) if change.settled => return Ok(()),
-            Some(change) => change.value,
-            None => forest.value(end as u64),
-        };
-        if wins(forest.algo(), number, present) {
-            let change = Change {
-                value: Value::Num(number),
-                parent,
-                settled: false,
-            };
-            self.changes.insert(end, change)?;
-            self.queue.push(priority(forest.algo(), number), end)?;
+        if self.takes(forest, end, number) {
+            self.improve(forest, end, number, parent)?;
         }
         Ok(())
     }
