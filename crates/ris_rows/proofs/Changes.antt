@@ -7,7 +7,7 @@ use Rattle.std.proofs.lemmas.List.{append-nil}
 use Rattle.ris_rows.specs.declared.neighbours.Neighbour.{Neighbour}
 use Rattle.ris_rows.specs.Neighbours.{is_before, is_of, IsBeforeAll, IsAscending, place_of, has, copies_of, listed, counted}
 use Rattle.ris_rows.proofs.Orders.{below-trans, below-same, below-other, same-first, same-second}
-use Rattle.ris_rows.proofs.Positions.{copies_of-past}
+use Rattle.ris_rows.proofs.Positions.{copies_of-past, copies_of-missing, has-past}
 
 -- the neighbour with another number of copies
 abbrev pub with_copies : Neighbour → ℕ → Neighbour
@@ -46,6 +46,21 @@ counted-new (n ∷ ns) e w k missing some =
       | inl t ↦ (let missing' : has ns e w ≡ false = rw t at missing in rw t (ap (λ (l : List Neighbour). n ∷ l) (counted-new ns e w k missing' some)))
       | inr u ↦ (let missing' : is_of n e w ≡ false = rw u at missing in rw (u, missing', listed-some e w k some) refl)
     ]
+
+-- what a push behind the last makes
+counted-one_last : (ns : List Neighbour) (e w : ℕ) → place_of ns e w ≡ length ns → counted ns e w 1 ≡ ns ++ record { end = e; weight = w; copies = 1 } ∷ []
+counted-one_last [] e w last = refl
+counted-one_last (n ∷ ns) e w last =
+    elim (cases_Bool (is_before n e w)) [
+      | inl t ↦ (let rest : place_of ns e w ≡ length ns = (let l = rw t at last in omega arith) in rw t (ap (λ (l : List Neighbour). n ∷ l) (counted-one_last ns e w rest)))
+      | inr u ↦ (let l = rw u at last in absurd (omega arith))
+    ]
+
+pub counted-last : (ns : List Neighbour) (e w : ℕ) → IsAscending ns → place_of ns e w ≡ length ns
+    → counted ns e w (copies_of ns e w + 1) ≡ ns ++ record { end = e; weight = w; copies = 1 } ∷ []
+counted-last ns e w h last =
+    let missing = has-past ns e w (omega arith) in
+    rw (copies_of-missing ns e w h missing) (counted-one_last ns e w last)
 
 pub counted-none : (ns : List Neighbour) (e w : ℕ) → has ns e w ≡ false → counted ns e w 0 ≡ ns
 counted-none [] e w missing = refl

@@ -1,4 +1,4 @@
-ghost use Rattle.std.specs.Prelude.{◌≡◌, ◌<◌, ◌≤◌, false, length, vec_len, vec_capacity};
+ghost use Rattle.std.specs.Prelude.{◌≡◌, ◌+◌, ◌<◌, ◌≤◌, false, IsTrue, length, vec_len, vec_capacity};
 ghost use Rattle.ris_rows.specs.Neighbours.{IsAscending, IsFound, place_of, has, copies_of, counted};
 
 use crate::neighbours::Neighbour;
@@ -36,6 +36,34 @@ pub fn find_from_end(items: &[Neighbour], end: u32, weight: u64) -> Result<usize
         Some(last) if !last.is_before(end, weight) => find(items, end, weight),
         _ => Err(items.len()),
     }
+}
+
+/// Whether the neighbour (end, weight) goes behind the last one: then each neighbour of the list stands before it.
+#[inline(always)]
+pub fn goes_last(items: &[Neighbour], end: u32, weight: u64) -> bool
+    requires { IsAscending items.now }
+    ensures { IsTrue result → place_of items.now end weight ≡ length items.now }
+{
+    match items.last() {
+        Some(last) => last.is_before(end, weight),
+        None => true,
+    }
+}
+
+/// One copy of the neighbour (end, weight), which goes behind the last one. There is room for it.
+#[inline(always)]
+pub fn put_last(items: &mut Vec<Neighbour>, end: u32, weight: u64)
+    requires ascending { IsAscending items.old.items }
+    requires last { place_of items.old.items end weight ≡ length items.old.items }
+    requires room { vec_len items.old < vec_capacity items.old }
+    ensures items { items.new.items ≡ counted items.old.items end weight (copies_of items.old.items end weight + 1) }
+    ensures capacity { vec_capacity items.new ≡ vec_capacity items.old }
+{
+    items.push_reserved(Neighbour {
+        end,
+        weight,
+        copies: 1,
+    });
 }
 
 /// The number of copies of the neighbour (end, weight), which was looked for.

@@ -92,6 +92,7 @@ impl<M> Row<M> {
 
     /// As `insert`, in constant time where no neighbour of the row stands past (end, weight). So a row is filled in
     /// linear time by neighbours that come in ascending order.
+    #[inline(always)]
     pub fn append(&mut self, end: u32, weight: u64)
         requires room { 1 ≤ self.old.spare }
         requires few { copies_of self.old.items end weight < 2 ^ 64 - 1 }
@@ -100,6 +101,10 @@ impl<M> Row<M> {
         ensures capacity { length self.new.items + self.new.spare ≡ length self.old.items + self.old.spare }
         ensures ascending { IsAscending self.new.items }
     {
+        if lists::goes_last(&self.items, end, weight) {
+            lists::put_last(&mut self.items, end, weight);
+            return;
+        }
         let found = lists::find_from_end(&self.items, end, weight);
         let copies = lists::copies_at(&self.items, found, end, weight);
         lists::write(&mut self.items, found, end, weight, copies + 1);

@@ -12,7 +12,7 @@ use crate::faults::RecordError;
 use crate::headers::Header;
 use crate::sessions::Session;
 use csv::ByteRecord;
-use ris_base::{Cause, CommandLists, NoMemory, Script, Triples};
+use ris_base::{Cause, CommandLists, NoMemory, Script, Triple, Triples};
 use std::alloc::Global;
 use std::marker::Model;
 
@@ -21,7 +21,7 @@ use std::marker::Model;
 pub(crate) struct Draft {
     alloc: Global,
     header: Header,
-    base: Triples,
+    base: Vec<Triple>,
     sessions: Vec<Session>,
     spoken: bool,
 }
@@ -33,7 +33,7 @@ impl Model for Draft {
 
     ghost use Rattle.ris_script.specs.Headers.{header_meaning};
 
-    ghost view = { λ d. record { header = header_meaning d.header; base = d.base; standings = d.sessions.items; spoken = d.spoken } };
+    ghost view = { λ d. record { header = header_meaning d.header; base = d.base.items; standings = d.sessions.items; spoken = d.spoken } };
 }
 
 impl Draft {
@@ -45,7 +45,7 @@ impl Draft {
         Ok(Draft {
             alloc,
             header,
-            base: Triples::new(alloc),
+            base: Vec::new(alloc),
             sessions,
             spoken: false,
         })
@@ -97,8 +97,10 @@ impl Draft {
         if self.spoken {
             return Err(RecordError::Fault(Cause::Base));
         }
-        self.base.push(triple)?;
-        Ok(())
+        match self.base.push(triple) {
+            Ok(()) => Ok(()),
+            Err(_) => Err(RecordError::NoMemory),
+        }
     }
 
     /// The script, where no record is left. `Close` exactly where a session has a transaction open.
@@ -120,7 +122,7 @@ impl Draft {
             format: header.format,
             vertices: header.vertices,
             sessions: header.sessions,
-            base,
+            base: Triples::from_vec(base),
             commands,
         })
     }
