@@ -19,5 +19,6 @@ pub mod StartLemmas
 pub mod StepLemmas
 pub mod StripeLemmas
 pub mod TableLemmas
+pub mod TileLemmas
 pub mod UnloadLemmas
 pub mod WorkLemmas

@@ -1,6 +1,8 @@
 -- Counts, filters and lists joined end to end, where one item of a list changes.
-use Rattle.std.proofs.Common.{◌≡◌, ◌≢◌, ℕ, zero, suc, ◌+◌, ◌<◌, ◌≤◌, Bool, true, false, not, ◌==◌, if◌then◌else◌, cond, List, [], ◌∷◌, ◌++◌, length, get_or, set, take, arith, refl, inl, inr, sym, ap, subst, ◌∙◌}
+use Rattle.std.proofs.Common.{◌≡◌, ◌≢◌, ℕ, zero, suc, ◌+◌, ◌<◌, ◌≤◌, Bool, true, false, not, ◌==◌, if◌then◌else◌, cond, List, [], ◌∷◌, ◌++◌, length, get_or, set, take, arith, append_assoc, refl, inl, inr, sym, ap, subst, ◌∙◌}
 use Rattle.std.specs.List.{All, AllPairs, Contains, count_by, filter, flat_map}
+use Rattle.std.specs.List.Sorted.{IsPermutation}
+use Rattle.std.proofs.lemmas.List.Sorted.{IsPermutation-trans, IsPermutation-append_left, IsPermutation-append_right, IsPermutation-append_comm}
 use Rattle.std.proofs.lemmas.Bool.{cases_Bool, cases_lt, cases_eq, eq-eqb}
 use Rattle.std.proofs.lemmas.List.{get_or-take, get_or_append_left, length-append, length-take-le}
 use Rattle.std.proofs.lemmas.List.Concat.{flat_map-cons}
@@ -125,3 +127,17 @@ AllPairs-head R x xs pairs k d lt = pairs 0 (suc k) d (omega arith) (omega arith
 
 pub AllPairs-tail : {X : Type 0} (R : X → X → Type 0) (x : X) (xs : List X) → AllPairs R (x ∷ xs) → AllPairs R xs
 AllPairs-tail R x xs pairs i j d lt less = pairs (suc i) (suc j) d (omega arith) (omega arith)
+
+-- Lists joined end to end
+
+-- one of the pieces gains what is put before all of them, in some order
+pub IsPermutation-flat_map_set : {X A : Type 0} (f : X → List A) (more : List A) (pieces : List X) (k : ℕ) (old new : X) → k < length pieces → old ≡ get_or pieces k old
+    → IsPermutation (more ++ f old) (f new) → IsPermutation (more ++ flat_map f pieces) (flat_map f (set pieces k new))
+IsPermutation-flat_map_set f more [] k old new lt is moved = absurd (omega arith)
+IsPermutation-flat_map_set f more (x ∷ rest) zero old new lt is moved =
+    rw (← append_assoc more (f x) (flat_map f rest)) (IsPermutation-append_left (flat_map f rest) (more ++ f x) (f new) (rw is at moved))
+IsPermutation-flat_map_set f more (x ∷ rest) (suc k) old new lt is moved =
+    let inner = IsPermutation-flat_map_set f more rest k old new (omega arith) is moved in
+    let front = IsPermutation-append_left (flat_map f rest) (more ++ f x) (f x ++ more) (IsPermutation-append_comm more (f x)) in
+    IsPermutation-trans _ _ _ (rw (append_assoc more (f x) (flat_map f rest), append_assoc (f x) more (flat_map f rest)) at front)
+    (IsPermutation-append_right (f x) (more ++ flat_map f rest) (flat_map f (set rest k new)) inner)

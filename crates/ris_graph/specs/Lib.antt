@@ -11,3 +11,4 @@ pub mod Sound
 pub mod StripeView
 pub mod Tables
 pub mod Ticks
+pub mod Tiles

@@ -8,21 +8,29 @@ pub(crate) struct Degree {
     pub ins: u64,
 }
 
-/// The degrees of the vertices below `vertices`, of which `sorted` has the triples, copies side by side. Linear time.
+/// The degrees of the vertices below `vertices`, of which `tiles` have the triples. Copies of one triple stand side by side
+/// in one tile. Linear time.
 pub(crate) fn degrees(
     alloc: Global,
     vertices: u32,
-    sorted: &[Triple],
+    tiles: &[Vec<Triple>],
 ) -> Result<Vec<Degree>, NoMemory> {
     let mut degrees = vec![in alloc; Degree { outs: 0, ins: 0 }; vertices as usize]?;
+    for tile in tiles {
+        count_all(&mut degrees, tile);
+    }
+    Ok(degrees)
+}
+
+/// Counts the triples of a tile, of each the first of its copies alone.
+fn count_all(degrees: &mut [Degree], tile: &[Triple]) {
     let mut last = None;
-    for t in sorted {
+    for t in tile {
         if last != Some(*t) {
-            count(&mut degrees, *t);
+            count(degrees, *t);
         }
         last = Some(*t);
     }
-    Ok(degrees)
 }
 
 /// Counts a triple for its two ends.

@@ -43,12 +43,12 @@ impl<M> Model for Graph<M> {
 impl<M> Graph<M> {
     ghost use Rattle.ris_base.specs.declared.graphs.PlainGraph.{PlainGraph};
     ghost use Rattle.ris_graph.specs.GraphView.{copies_in, out_row, in_row, vertex_in, IsOf, HasRoomOf};
-    ghost use Rattle.ris_graph.specs.Appending.{CanAppend, appended};
+    ghost use Rattle.ris_graph.specs.Appending.{CanAppend, CanAppendAll, appended, appended_all};
 
     /// The graph that has the vertices below `vertices`, which are at most 4,194,304, and the triples of `base`, each
-    /// time that one stands there a copy. It sorts a copy of the triples: in linear time by ranges of targets and by
-    /// source, and then those of one range and source in n log n. So it fills each row in ascending order, in linear time.
-    /// A row takes room for its neighbours and an eighth more at once.
+    /// time that one stands there a copy. It sorts a copy of the triples: in linear time by ranges of targets, by ranges of
+    /// sources and by source, and then those of one range and source in n log n. So it fills each row in ascending order,
+    /// in linear time. A row takes room for its neighbours and an eighth more at once.
     pub fn start(
         alloc: Global,
         vertices: u32,
@@ -60,11 +60,11 @@ impl<M> Graph<M> {
         requires weights { All (λ t. t.weight ≤ greatest_of format) base.now }
         ensures { IfOk result (λ g. IsOf g (record { format = format; vertices = numbers_below vertices; triples = base.now })) }
     {
-        let sorted = sorting::sorted(alloc, vertices, base)?;
+        let tiles = sorting::sorted(alloc, vertices, base)?;
         let mut graph = Graph::edgeless(alloc, vertices, format)?;
-        graph.reserve_rows(&degrees(alloc, vertices, &sorted)?)?;
-        for t in &sorted {
-            graph.append(*t)?;
+        graph.reserve_rows(&degrees(alloc, vertices, &tiles)?)?;
+        for tile in &tiles {
+            graph.append_all(tile)?;
         }
         Ok(graph)
     }
@@ -99,6 +99,17 @@ impl<M> Graph<M> {
             {
                 self.reserve(x, roomy(degree.outs), x, roomy(degree.ins))?;
             }
+        }
+        Ok(())
+    }
+
+    /// One copy more of each triple, one after the other, as `append` adds it.
+    fn append_all(&mut self, triples: &[Triple]) -> Result<(), NoMemory>
+        requires { CanAppendAll self.old triples.now }
+        ensures { OnOk result ((p : PlainGraph) → IsOf self.old p → IsOf self.new (appended_all p triples.now)) }
+    {
+        for t in triples {
+            self.append(*t)?;
         }
         Ok(())
     }

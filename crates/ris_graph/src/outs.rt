@@ -82,6 +82,7 @@ impl<M> OutRows<M> {
     }
 
     /// Makes room for `n` inserts in the row of `u`, as `Row::reserve` does.
+    #[inline(always)]
     pub fn reserve(&mut self, u: u32, n: u64) -> Result<(), NoMemory>
         requires { HasRow self.old u }
         ensures table { self.new ≡ with_row self.old u (row_of self.new u) }
@@ -103,6 +104,7 @@ impl<M> OutRows<M> {
     }
 
     /// One copy more of the neighbour (end, weight) of `u`, as `Row::append` adds it.
+    #[inline(always)]
     pub fn append(&mut self, u: u32, end: u32, weight: u64)
         requires row { HasRow self.old u }
         requires room { 1 ≤ (row_of self.old u).spare }

@@ -79,6 +79,7 @@ impl<M> Stripe<M> {
     }
 
     /// Makes room for `n` inserts in the row at a place, as `Row::reserve` does.
+    #[inline(always)]
     pub(crate) fn reserve(&mut self, place: usize, n: u64) -> Result<(), NoMemory>
         requires idle { IsIdle self.old }
         requires place { place < length self.old.rows }
@@ -102,6 +103,7 @@ impl<M> Stripe<M> {
     }
 
     /// One copy more of a neighbour in the row at a place, as `Row::append` adds it.
+    #[inline(always)]
     pub(crate) fn append(&mut self, place: usize, end: u32, weight: u64)
         requires idle { IsIdle self.old }
         requires place { place < length self.old.rows }

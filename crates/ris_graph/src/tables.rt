@@ -63,6 +63,7 @@ impl<M> RowTable<M> {
     }
 
     /// Makes room for `n` inserts in the row at a place, as `Row::reserve` does.
+    #[inline(always)]
     pub fn reserve(&mut self, place: usize, n: u64) -> Result<(), NoMemory>
         requires { place < length self.old }
         ensures table { self.new ≡ slice_set self.old place (row_at self.new place) }
@@ -82,6 +83,7 @@ impl<M> RowTable<M> {
     }
 
     /// One copy more of the neighbour (end, weight) in the row at a place, as `Row::append` adds it.
+    #[inline(always)]
     pub fn append(&mut self, place: usize, end: u32, weight: u64)
         requires place { place < length self.old }
         requires room { 1 ≤ (row_at self.old place).spare }

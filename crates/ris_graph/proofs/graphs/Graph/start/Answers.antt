@@ -1,45 +1,50 @@
-use Rattle.std.proofs.Common.{◌<◌, ◌≤◌, List, get_or, take, sym, subst, arith}
-use Rattle.std.proofs.lemmas.List.{take_more, take_all, length-take-le}
-use Rattle.std.proofs.lemmas.List.Sums.{count_by-le-length}
-use Rattle.std.proofs.lemmas.List.Sorted.{All-permutation}
-use Rattle.ris_base.specs.Graph.{is_equal}
+use Rattle.std.proofs.Common.{◌<◌, ◌≤◌, List, take, sym, subst, arith}
+use Rattle.std.specs.List.Sorted.{IsPermutation}
+use Rattle.std.proofs.lemmas.List.{take_all}
+use Rattle.std.proofs.lemmas.List.Sorted.{All-permutation, length_permutation}
 use Rattle.ris_base.specs.Limits.{greatest_of}
 use Rattle.ris_base.specs.declared.graphs.Triple.{Triple}
 use Rattle.ris_graph.specs.GraphView.{IsOf}
+use Rattle.ris_graph.specs.Tiles.{tiled}
 use Rattle.ris_graph.proofs.StartLemmas.{based, proper-based, IsOf-permuted}
+use Rattle.ris_graph.proofs.TileLemmas.{tiled_more, All-tile, tile-fits}
 use Rattle.ris_graph.proofs.graphs.Graph.start.Goals as goal
 
-pub append-requires : goal.append-requires
-append-requires g c =
+pub append_all-requires : goal.append_all-requires
+append_all-requires g c =
     let ts = c.args.base.now in
-    let xs = c.deref-t-items.result.now in
-    let i = c.loop-t.t-index in
-    let t = get_or xs i (record { source = 0; target = 0; weight = 0 }) in
-    let moved = rw (← c.deref-t-items.ensures.value) at c.in_ok-sorted.ensures in
-    let ends = All-permutation (λ (s : Triple). (s.source < c.args.vertices) × (s.target < c.args.vertices)) ts xs moved c.requires.ends in
-    let weights = All-permutation (λ (s : Triple). s.weight ≤ greatest_of c.args.format) ts xs moved c.requires.weights in
-    let most = count_by-le-length (is_equal t) (take i xs) in
-    let size = length-take-le i xs c.loop-t.auto.t-index-end in
-    let same = c.loop-t.invariant.triples t in
-    record {
-      plain = based c.args.format c.args.vertices (take i xs);
-      is = c.loop-t.invariant;
-      proper = proper-based c.args.format c.args.vertices xs (take i xs) ends weights i (record { source = 0; target = 0; weight = 0 }) c.loop-t-test.true;
-      few = (let lt = c.loop-t-test.true in omega (arith, c.deref-t-items.type_inv));
-    }
+    let tiles = c.deref-tile-items.result.now in
+    let i = c.loop-tile.tile-index in
+    let tile = c.tile-item.result in
+    let moved : IsPermutation ts (tiled tiles) = rw (← c.deref-tile-items.ensures.value) at c.in_ok-tiles.ensures.same in
+    let lt = c.loop-tile-test.true in
+    let ends = All-tile (λ (s : Triple). (s.source < c.args.vertices) × (s.target < c.args.vertices)) tiles i tile lt c.tile-item.is
+    (All-permutation (λ (s : Triple). (s.source < c.args.vertices) × (s.target < c.args.vertices)) ts (tiled tiles) moved c.requires.ends) in
+    let weights = All-tile (λ (s : Triple). s.weight ≤ greatest_of c.args.format) tiles i tile lt c.tile-item.is
+    (All-permutation (λ (s : Triple). s.weight ≤ greatest_of c.args.format) ts (tiled tiles) moved c.requires.weights) in
+    let fits = tile-fits tiles i tile lt c.tile-item.is in
+    let size = length_permutation ts (tiled tiles) moved in
+    rw c.deref-in-loop-tile.ensures.value (record {
+      plain = based c.args.format c.args.vertices (tiled (take i tiles));
+      is = c.loop-tile.invariant;
+      proper = proper-based c.args.format c.args.vertices tile.items (tiled (take i tiles)) ends weights;
+      few = (let few = c.in_ok-tiles.ensures.few in omega arith);
+    })
 
-pub loop-t-preserved : goal.loop-t-preserved
-loop-t-preserved g c =
-    let xs = c.deref-t-items.result.now in
-    let i = c.loop-t.t-index in
-    subst (λ (l : List Triple). IsOf c.append.new.self (based c.args.format c.args.vertices l)) (sym (take_more xs i (record { source = 0; target = 0; weight = 0 }) c.loop-t-test.true))
-    (c.in_ok-append.ensures (based c.args.format c.args.vertices (take i xs)) c.loop-t.invariant)
+pub loop-tile-preserved : goal.loop-tile-preserved
+loop-tile-preserved g c =
+    let tiles = c.deref-tile-items.result.now in
+    let i = c.loop-tile.tile-index in
+    let tile = c.tile-item.result in
+    let added = c.in_ok-append_all.ensures (based c.args.format c.args.vertices (tiled (take i tiles))) c.loop-tile.invariant in
+    let seen = tiled_more tiles i tile c.loop-tile-test.true c.tile-item.is in
+    subst (λ (l : List Triple). IsOf c.append_all.new.self (based c.args.format c.args.vertices l)) (sym seen) (rw c.deref-in-loop-tile.ensures.value at added)
 
 pub returns : goal.returns
 returns g c =
     let ts = c.args.base.now in
-    let xs = c.deref-t-items.result.now in
-    let moved = rw (← c.deref-t-items.ensures.value) at c.in_ok-sorted.ensures in
-    let whole = take_all c.loop-t.t-index xs c.loop-t-test.false in
-    IsOf-permuted c.loop-t.graph c.args.format c.args.vertices ts xs moved (rw whole at c.loop-t.invariant)
+    let tiles = c.deref-tile-items.result.now in
+    let moved : IsPermutation ts (tiled tiles) = rw (← c.deref-tile-items.ensures.value) at c.in_ok-tiles.ensures.same in
+    let whole = take_all c.loop-tile.tile-index tiles c.loop-tile-test.false in
+    IsOf-permuted c.loop-tile.graph c.args.format c.args.vertices ts (tiled tiles) moved (rw whole at c.loop-tile.invariant)
     (proper-based c.args.format c.args.vertices ts ts c.requires.ends c.requires.weights)
