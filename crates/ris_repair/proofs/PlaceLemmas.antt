@@ -1,14 +1,14 @@
 -- What the places of tables side by side say.
-use Rattle.std.proofs.Common.{◌≡◌, ◌≢◌, ℕ, ◌<◌, ◌≤◌, ◌-◌, ◌==◌, false, inl, inr, List, ◌++◌, length, take, replicate, get_or, set, Option, None, arith, refl, sym, ap, ◌∙◌}
+use Rattle.std.proofs.Common.{◌≡◌, ◌≢◌, ℕ, ◌<◌, ◌≤◌, ◌-◌, ◌==◌, Bool, false, inl, inr, List, ◌++◌, length, take, replicate, get_or, set, Option, None, arith, refl, sym, ap, ◌∙◌}
 use Rattle.std.proofs.lemmas.Bool.{cases_lt, eqb-false}
 use Rattle.std.proofs.lemmas.List.{ext_get_or, get_or_default, get_or_past, get_or-set_same, get_or-set_other, get_or_append_left, get_or-append_right, get_or-replicate, get_or-take, length-replicate, length-take, take_all}
 use Rattle.std.proofs.lemmas.List.FromFn.{length-map-range_with_len, get_or-map-range_with_len}
 use Rattle.ris_base.specs.declared.forests.Parent.{Parent}
 use Rattle.ris_base.specs.declared.forests.Parent.TheVariants as parent
-use Rattle.ris_repair.specs.Tables.{change_of, standing_at, changes_of}
+use Rattle.ris_repair.specs.Tables.{change_by, change_of, unmarked, standing_at, changes_of}
 use Rattle.ris_repair.specs.declared.stores.Change.{Change}
 use Rattle.ris_repair.specs.declared.tables.Mark.{Mark}
-use Rattle.ris_repair.specs.declared.tables.Mark.TheVariants.{Unchanged}
+use Rattle.ris_repair.specs.declared.tables.MarkKind.{MarkKind}
 
 -- A list that was resized
 
@@ -56,17 +56,29 @@ module _ (marks : List Mark) (numbers : List ℕ) (parents : List Parent) where
   get_or-changes k = elim (cases_lt k (length marks)) [
     | inl lt ↦ get_or-map-range_with_len (standing_at marks numbers parents) 0 (length marks) k k None lt (omega arith)
     | inr past ↦ get_or_past (changes_of marks numbers parents) k None (omega (arith, length-changes))
-        ∙ sym (ap (λ (m : Mark). change_of m (get_or numbers k 0) (get_or parents k parent.None)) (get_or_past marks k Unchanged past))
+        ∙ sym (ap (λ (m : Mark). change_of m (get_or numbers k 0) (get_or parents k parent.None)) (get_or_past marks k unmarked past))
   ]
 
   -- what a place with this mark says
-  pub marked : (now : List (Option Change)) → changes_of marks numbers parents ≡ now → (k : ℕ) (m : Mark) → get_or marks k Unchanged ≡ m
+  pub marked : (now : List (Option Change)) → changes_of marks numbers parents ≡ now → (k : ℕ) (m : Mark) → get_or marks k unmarked ≡ m
       → get_or now k None ≡ change_of m (get_or numbers k 0) (get_or parents k parent.None)
   marked now is k m e = ap (λ l. get_or l k None) (sym is) ∙ get_or-changes k ∙ ap (λ (m : Mark). change_of m (get_or numbers k 0) (get_or parents k parent.None)) e
 
+  -- what a place says whose mark was read, and is of this kind, settled or not
+  pub read_mark : (now : List (Option Change)) → changes_of marks numbers parents ≡ now → (k : ℕ) (m : Mark) → k < length marks → m ≡ get_or marks k m
+      → (kind : MarkKind) (s : Bool) → m.kind ≡ kind → m.settled ≡ s → get_or now k None ≡ change_by kind s (get_or numbers k 0) (get_or parents k parent.None)
+  read_mark now is k m lt read kind s of at =
+      marked now is k m (read_as marks k m unmarked lt read)
+      ∙ ap (λ (l : MarkKind). change_by l m.settled (get_or numbers k 0) (get_or parents k parent.None)) of
+      ∙ ap (λ (b : Bool). change_by kind b (get_or numbers k 0) (get_or parents k parent.None)) at
+
+  -- what a place past the end says
+  pub past_end : (now : List (Option Change)) → changes_of marks numbers parents ≡ now → (k : ℕ) → length marks ≤ k → get_or now k None ≡ None
+  past_end now is k past = marked now is k unmarked (get_or_past marks k unmarked past)
+
 -- other tables with the same in a place
 pub same_place : (marks marks2 : List Mark) (numbers numbers2 : List ℕ) (parents parents2 : List Parent) (k : ℕ)
-    → get_or marks2 k Unchanged ≡ get_or marks k Unchanged
+    → get_or marks2 k unmarked ≡ get_or marks k unmarked
     → (k < length marks → get_or numbers2 k 0 ≡ get_or numbers k 0) → (k < length marks → get_or parents2 k parent.None ≡ get_or parents k parent.None)
     → get_or (changes_of marks2 numbers2 parents2) k None ≡ get_or (changes_of marks numbers parents) k None
 same_place marks marks2 numbers numbers2 parents parents2 k mark number up =
@@ -76,10 +88,10 @@ same_place marks marks2 numbers numbers2 parents parents2 k mark number up =
     both = elim (cases_lt k (length marks)) [
       | inl lt ↦
           ap (λ (m : Mark). change_of m (get_or numbers2 k 0) (get_or parents2 k parent.None)) mark
-          ∙ ap (λ (n : ℕ). change_of (get_or marks k Unchanged) n (get_or parents2 k parent.None)) (number lt)
-          ∙ ap (λ (p : Parent). change_of (get_or marks k Unchanged) (get_or numbers k 0) p) (up lt)
+          ∙ ap (λ (n : ℕ). change_of (get_or marks k unmarked) n (get_or parents2 k parent.None)) (number lt)
+          ∙ ap (λ (p : Parent). change_of (get_or marks k unmarked) (get_or numbers k 0) p) (up lt)
       | inr past ↦
-          let none = get_or_past marks k Unchanged past in
+          let none = get_or_past marks k unmarked past in
           ap (λ (m : Mark). change_of m (get_or numbers2 k 0) (get_or parents2 k parent.None)) (mark ∙ none)
           ∙ sym (ap (λ (m : Mark). change_of m (get_or numbers k 0) (get_or parents k parent.None)) none)
     ]
@@ -100,7 +112,7 @@ module _ (marks : List Mark) (numbers : List ℕ) (parents : List Parent) (i : �
       → get_or (changes_of (set marks i m) (set numbers i n) (set parents i p)) i None ≡ change_of m n p
   written one two three =
       get_or-changes (set marks i m) (set numbers i n) (set parents i p) i
-      ∙ ap (λ (k : Mark). change_of k (get_or (set numbers i n) i 0) (get_or (set parents i p) i parent.None)) (get_or-set_same marks i m Unchanged one)
+      ∙ ap (λ (k : Mark). change_of k (get_or (set numbers i n) i 0) (get_or (set parents i p) i parent.None)) (get_or-set_same marks i m unmarked one)
       ∙ ap (λ (k : ℕ). change_of m k (get_or (set parents i p) i parent.None)) (get_or-set_same numbers i n 0 two)
       ∙ ap (λ (k : Parent). change_of m n k) (get_or-set_same parents i p parent.None three)
 
@@ -109,5 +121,5 @@ module _ (marks : List Mark) (numbers : List ℕ) (parents : List Parent) (i : �
       → get_or (changes_of (set marks i m) (set numbers i n) (set parents i p)) k None ≡ get_or (changes_of marks numbers parents) k None
   written_apart k off =
       let ne : k ≢ i = λ e. eqb-false i k off (sym e) in
-      same_place marks (set marks i m) numbers (set numbers i n) parents (set parents i p) k (get_or-set_other marks i k m Unchanged ne)
+      same_place marks (set marks i m) numbers (set numbers i n) parents (set parents i p) k (get_or-set_other marks i k m unmarked ne)
       (λ _. get_or-set_other numbers i k n 0 ne) (λ _. get_or-set_other parents i k p parent.None ne)

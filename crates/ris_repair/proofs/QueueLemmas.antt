@@ -64,6 +64,10 @@ queued_all kind changes queue before x d h = elim (before x d h) [ inl at ↦ ab
 pub queued_but : (kind : Kind) (changes : ℕ → Option Change) (queue : List (ℕ × ℕ)) (xs : List ℕ) → AreQueued kind changes queue → AreQueuedBut kind xs changes queue
 queued_but kind changes queue xs before x d h = inr (before x d h)
 
+-- the same items in another order serve as well
+pub queued_moved : (kind : Kind) (changes : ℕ → Option Change) (queue queue2 : List (ℕ × ℕ)) → IsPermutation queue queue2 → AreQueued kind changes queue → AreQueued kind changes queue2
+queued_moved kind changes queue queue2 moved before x d h = Contains-permutation queue queue2 (priority_of kind d, x) moved (before x d h)
+
 -- A queue of all vertices of a list
 
 mapped_in : {X Y : Type 0} (f : X → Y) (xs : List X) (x : X) → Contains xs x → Contains (map f xs) (f x)

@@ -4,6 +4,8 @@ pub mod Due
 pub mod Fews
 pub mod Marks
 pub mod Priority
+pub mod Queues
+pub mod Radix
 pub mod Rows
 pub mod Stages
 pub mod Stores

@@ -1,5 +1,5 @@
 -- The changes that tables side by side say.
-use Rattle.std.specs.Prelude.{ℕ, true, false, List, length, map, Option, Some, None, slice_index_or}
+use Rattle.std.specs.Prelude.{ℕ, Bool, false, List, length, map, Option, Some, None, slice_index_or}
 use Rattle.std.specs.List.{range_with_len}
 use Rattle.ris_base.specs.declared.analyses.Value.{Value}
 use Rattle.ris_base.specs.declared.analyses.Value.TheVariants as value
@@ -7,21 +7,27 @@ use Rattle.ris_base.specs.declared.forests.Parent.{Parent}
 use Rattle.ris_base.specs.declared.forests.Parent.TheVariants as parent
 use Rattle.ris_repair.specs.declared.stores.Change.{Change}
 use Rattle.ris_repair.specs.declared.tables.Mark.{Mark}
-use Rattle.ris_repair.specs.declared.tables.Mark.TheVariants.{Unchanged, Absent, Unreached, Number, SettledAbsent, SettledUnreached, SettledNumber}
+use Rattle.ris_repair.specs.declared.tables.MarkKind.{MarkKind}
+use Rattle.ris_repair.specs.declared.tables.MarkKind.TheVariants.{Unchanged, Absent, Unreached, Number}
+
+-- the change that a mark of this kind says, settled or not, with this number where it says that there is one, and with this parent
+abbrev pub change_by : MarkKind → Bool → ℕ → Parent → Option Change
+change_by Unchanged s n p = None
+change_by Absent s n p = Some (record { value = value.Absent; parent = p; settled = s })
+change_by Unreached s n p = Some (record { value = value.Unreached; parent = p; settled = s })
+change_by Number s n p = Some (record { value = value.Num n; parent = p; settled = s })
 
 -- the change that a mark says, with this number where it says that there is one, and with this parent
 abbrev pub change_of : Mark → ℕ → Parent → Option Change
-change_of Unchanged n p = None
-change_of Absent n p = Some (record { value = value.Absent; parent = p; settled = false })
-change_of Unreached n p = Some (record { value = value.Unreached; parent = p; settled = false })
-change_of Number n p = Some (record { value = value.Num n; parent = p; settled = false })
-change_of SettledAbsent n p = Some (record { value = value.Absent; parent = p; settled = true })
-change_of SettledUnreached n p = Some (record { value = value.Unreached; parent = p; settled = true })
-change_of SettledNumber n p = Some (record { value = value.Num n; parent = p; settled = true })
+change_of m n p = change_by m.kind m.settled n p
+
+-- the mark of a vertex without a change
+abbrev pub unmarked : Mark
+unmarked = record { kind = Unchanged; settled = false }
 
 -- the change that stands in a place
 abbrev pub standing_at : List Mark → List ℕ → List Parent → ℕ → Option Change
-standing_at marks numbers parents k = change_of (slice_index_or marks k Unchanged) (slice_index_or numbers k 0) (slice_index_or parents k parent.None)
+standing_at marks numbers parents k = change_of (slice_index_or marks k unmarked) (slice_index_or numbers k 0) (slice_index_or parents k parent.None)
 
 -- the changes in the places of all marks
 unfoldable pub changes_of : List Mark → List ℕ → List Parent → List (Option Change)

@@ -9,7 +9,7 @@ ghost use Rattle.ris_repair.specs.Crossing.{crosses, crossed};
 ghost use Rattle.ris_repair.specs.Stores.{change_at};
 
 use crate::queues::{Queue, priority};
-use crate::stores::{Change, Store};
+use crate::stores::{Change, Stage, Store};
 use ris_algo::Monotone;
 use ris_base::{NoMemory, Parent, Triple, Value};
 use ris_forest::Forest;
@@ -50,7 +50,7 @@ impl Frontier {
         ensures queue { IfOk result (λ frontier. frontier.queue ≡ []) }
     {
         let changes = Store::dense(alloc, size)?;
-        let queue = Queue::new(alloc);
+        let queue = Queue::whole(alloc)?;
         Ok(Frontier { changes, queue })
     }
 
@@ -59,10 +59,10 @@ impl Frontier {
     fn takes<A: Monotone>(&self, forest: &Forest<A>, end: u32, number: u64) -> bool
         ensures { result ≡ is_better (A.spec forest.now.algo).kind (forest_of forest.now.cells) (change_at self.now.changes) end number }
     {
-        let present = match self.changes.get(end) {
-            Some(change) if change.settled => return false,
-            Some(change) => change.value,
-            None => forest.value(end as u64),
+        let present = match self.changes.stage(end) {
+            Stage::Settled => return false,
+            Stage::Waiting(value) => value,
+            Stage::Unchanged => forest.value(end as u64),
         };
         wins(forest.algo(), number, present)
     }

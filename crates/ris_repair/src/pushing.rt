@@ -100,7 +100,7 @@ impl Frontier {
             → Covers g (A.spec forest.now.algo) (forest_of forest.now.cells) fallen xs
             → IsRise (M.ticks meter.old) (M.ticks meter.new) (sum_by (push g (A.spec forest.now.algo)) xs) }
     {
-        while let Some((vertex, number)) = self.take_best(forest) {
+        while let Some((vertex, number)) = self.take_best(forest)? {
             self.push_vertex(graph, forest, vertex, number, meter)?;
         }
         Ok(())

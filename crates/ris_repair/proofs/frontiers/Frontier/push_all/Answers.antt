@@ -36,7 +36,7 @@ push_vertex-requires-clause-number g c κs within =
     let on = c.requires.on in
     next_small c.args.graph.now on.0 (g.A.Monotone.spec c.args.forest.now.algo) (forest_of c.args.forest.now.cells) vertex_limit on.1
     (change_at c.loop-vertex.self.changes) (change_at c.take_best.new.self.changes) c.loop-vertex.self.queue c.take_best.new.self.queue c.in-Some.vertex c.in-Some.number on.2
-    (c.loop-vertex.invariant.kept on.0 on.1 on.2 on.3).0 c.in-Some.ensures.next c.in-Some.ensures.small
+    (c.loop-vertex.invariant.kept on.0 on.1 on.2 on.3).0 (rw c.in-Some.is at c.in_ok-vertex.ensures.next) (rw c.in-Some.is at c.in_ok-vertex.ensures.small)
 
 pub loop-vertex-smaller : goal.loop-vertex-smaller
 loop-vertex-smaller g c =
@@ -44,7 +44,7 @@ loop-vertex-smaller g c =
     let spec = g.A.Monotone.spec c.args.forest.now.algo in
     let step = next_settled c.args.graph.now on.0 spec (forest_of c.args.forest.now.cells) vertex_limit on.1
     (change_at c.loop-vertex.self.changes) (change_at c.take_best.new.self.changes) c.loop-vertex.self.queue c.take_best.new.self.queue c.in-Some.vertex c.in-Some.number on.2
-    (c.loop-vertex.invariant.kept on.0 on.1 on.2 on.3).0 c.in-Some.ensures.next c.in-Some.ensures.small
+    (c.loop-vertex.invariant.kept on.0 on.1 on.2 on.3).0 (rw c.in-Some.is at c.in_ok-vertex.ensures.next) (rw c.in-Some.is at c.in_ok-vertex.ensures.small)
     (change_at c.push_vertex.new.self.changes) (push on.0 spec) c.push_vertex.ensures.settled in
     let one = step.1 in
     omega arith
@@ -65,14 +65,14 @@ loop-vertex-preserved g c =
     (start : IsPushing graph spec F n fallen (change_at c.args.self.now.changes) c.args.self.now.queue nothing). row_done graph spec F n fallen last c.push_vertex.new.self.queue v number
     (c.in_ok-push_vertex.ensures.kept graph fallen of
     (next_pushes c.args.graph.now graph spec F n fallen old mid c.loop-vertex.self.queue c.take_best.new.self.queue v number of
-    (c.loop-vertex.invariant.kept graph fallen of start).0 c.in-Some.ensures.next c.in-Some.ensures.small g.A.Monotone.BOTH_WAYS ways c.take_best.ensures.queued)) in
+    (c.loop-vertex.invariant.kept graph fallen of start).0 (rw c.in-Some.is at c.in_ok-vertex.ensures.next) (rw c.in-Some.is at c.in_ok-vertex.ensures.small) g.A.Monotone.BOTH_WAYS ways c.take_best.ensures.queued)) in
     record {
       queued = (after on.0 on.1 on.2 on.3).carried.queued;
       kept = λ graph fallen of start. (
         after graph fallen of start,
         (let before = c.loop-vertex.invariant.kept graph fallen of start in
             let step = next_settled c.args.graph.now graph spec F n fallen old mid c.loop-vertex.self.queue c.take_best.new.self.queue v number of before.0
-            c.in-Some.ensures.next c.in-Some.ensures.small last (push graph spec) c.push_vertex.ensures.settled in
+            (rw c.in-Some.is at c.in_ok-vertex.ensures.next) (rw c.in-Some.is at c.in_ok-vertex.ensures.small) last (push graph spec) c.push_vertex.ensures.settled in
             let one = step.0 in
             let size = end_count-push c.args.graph.now graph of g.A.Monotone.BOTH_WAYS spec ways v in
             rise_more (g.M.Meter.ticks c.args.meter.now) (g.M.Meter.ticks c.loop-vertex.meter) (g.M.Meter.ticks c.push_vertex.new.meter)
@@ -88,7 +88,7 @@ returns-clause-kept g c = λ graph fallen of start.
     let n = vertex_limit in
     with_queue graph spec F n fallen (change_at c.take_best.new.self.changes) c.loop-vertex.self.queue c.take_best.new.self.queue nothing
     (subst (λ (f : ℕ → Option Change). IsPushing graph spec F n fallen f c.loop-vertex.self.queue nothing)
-    (same_changes (change_at c.loop-vertex.self.changes) (change_at c.take_best.new.self.changes) c.in_default.ensures.same)
+    (same_changes (change_at c.loop-vertex.self.changes) (change_at c.take_best.new.self.changes) (rw c.in_default.is at c.in_ok-vertex.ensures.same))
     (c.loop-vertex.invariant.kept graph fallen of start).0)
     c.take_best.ensures.queued
 
@@ -111,9 +111,9 @@ returns-in_err-push_vertex-clause-visits g c = λ graph fallen xs of start cover
     let both = g.A.Monotone.BOTH_WAYS in
     let before = c.loop-vertex.invariant.kept graph fallen of start in
     let taken = next_pushes c.args.graph.now graph spec F n fallen old mid c.loop-vertex.self.queue c.take_best.new.self.queue v number of before.0
-    c.in-Some.ensures.next c.in-Some.ensures.small both ways c.take_best.ensures.queued in
+    (rw c.in-Some.is at c.in_ok-vertex.ensures.next) (rw c.in-Some.is at c.in_ok-vertex.ensures.small) both ways c.take_best.ensures.queued in
     let step = next_settled c.args.graph.now graph spec F n fallen old mid c.loop-vertex.self.queue c.take_best.new.self.queue v number of before.0
-    c.in-Some.ensures.next c.in-Some.ensures.small mid (push graph spec) (λ x. refl) in
+    (rw c.in-Some.is at c.in_ok-vertex.ensures.next) (rw c.in-Some.is at c.in_ok-vertex.ensures.small) mid (push graph spec) (λ x. refl) in
     let one = step.0 in
     let size = end_count-push c.args.graph.now graph of both spec ways v in
     settled_rise c.args.graph.now graph spec F n fallen mid c.take_best.new.self.queue (in_row v (ends_of both c.args.graph.now v)) xs
@@ -121,3 +121,9 @@ returns-in_err-push_vertex-clause-visits g c = λ graph fallen xs of start cover
     (rise_more (g.M.Meter.ticks c.args.meter.now) (g.M.Meter.ticks c.loop-vertex.meter) (g.M.Meter.ticks c.push_vertex.new.meter)
     (sum_where (λ x. is_settled (old x)) (push graph spec) n) (end_count both c.args.graph.now v)
     (sum_where (λ x. is_settled (mid x)) (push graph spec) n) before.1 c.push_vertex.ensures.ticks (omega arith))
+
+pub returns-in_err-vertex-clause-visits : goal.returns-in_err-vertex-clause-visits
+returns-in_err-vertex-clause-visits g c = λ graph fallen xs of start covers.
+    let before = c.loop-vertex.invariant.kept graph fallen of start in
+    settled_rise c.args.graph.now graph (g.A.Monotone.spec c.args.forest.now.algo) (forest_of c.args.forest.now.cells) vertex_limit fallen
+    (change_at c.loop-vertex.self.changes) c.loop-vertex.self.queue nothing xs (g.M.Meter.ticks c.args.meter.now) (g.M.Meter.ticks c.loop-vertex.meter) before.0 covers before.1

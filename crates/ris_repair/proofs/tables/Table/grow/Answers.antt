@@ -2,9 +2,8 @@
 use Rattle.std.proofs.Common.{◌≤◌, List, length, get_or, None, Result, Ok, Err, OnErr, arith, refl, sym, ap, ◌∙◌}
 use Rattle.ris_base.specs.declared.forests.Parent.{Parent}
 use Rattle.ris_base.specs.declared.forests.Parent.TheVariants as parent
-use Rattle.ris_repair.specs.Tables.{changes_of}
+use Rattle.ris_repair.specs.Tables.{unmarked, changes_of}
 use Rattle.ris_repair.specs.declared.tables.Mark.{Mark}
-use Rattle.ris_repair.specs.declared.tables.Mark.TheVariants.{Unchanged}
 use Rattle.ris_repair.proofs.PlaceLemmas.{length-changes, resized_below, resized_at, same_place, same_changes}
 use Rattle.ris_repair.proofs.tables.Table.grow.Goals as goal
 
@@ -49,7 +48,7 @@ returns-clause-same c = λ y.
     let more = c.self.invariant.0 in
     let most = c.self.invariant.1 in
     same_place t.marks.items c.resize-3.new.self.items t.numbers.items c.resize.new.self.items t.parents.items c.resize-2.new.self.items y
-    (resized_at t.marks.items c.resize-3.new.self.items c.args.size _ y Unchanged c.in_ok-resize-3.ensures.items long)
+    (resized_at t.marks.items c.resize-3.new.self.items c.args.size _ y unmarked c.in_ok-resize-3.ensures.items long)
     (λ lt. resized_below t.numbers.items c.resize.new.self.items c.args.size _ y 0 0 c.in_ok-resize.ensures.items (omega arith) (omega arith))
     (λ lt. resized_below t.parents.items c.resize-2.new.self.items c.args.size _ y parent.None parent.None c.in_ok-resize-2.ensures.items (omega arith) (omega arith))
     ∙ ap (λ l. get_or l y None) c.self.view_is
