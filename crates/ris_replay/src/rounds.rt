@@ -54,6 +54,7 @@ impl<M: Meter> Rounds<M> {
             commands,
         } = script;
         let driver = Driver::start(alloc, vertices, format, &base, specs, sessions, meter)?;
+        drop(base);
         let history = History::start(alloc, driver.opening())?;
         let players = players_of(alloc, commands)?;
         let queues = queues_of(alloc, sessions)?;

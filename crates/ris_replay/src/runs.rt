@@ -208,11 +208,14 @@ fn played<R: Threads + Sync, M: Meter, G: Gate>(
     Ok(replay_local(rt, alloc, script, specs, workers, gate, meter)?)
 }
 
-/// The script that bytes spell, or its first fault. The bytes are given up.
+/// The script that bytes spell, or its first fault. The bytes are given up. Before that, they give back the memory that they
+/// don't fill, where that is to be had.
 fn script_in(alloc: Global, bytes: Bytes, analyses: u32) -> Result<Script, ScriptError>
     ensures { Reads result (script_of analyses bytes) }
 {
-    read_script(alloc, &bytes.into_vec(), analyses)
+    let mut bytes = bytes.into_vec();
+    let _ = bytes.shrink_to_fit();
+    read_script(alloc, &bytes, analyses)
 }
 
 /// The analyses of a script that is made of a seed: depth and shortest path from vertex 0, and components.
