@@ -88,17 +88,49 @@ impl<M> Graph<M> {
         })
     }
 
-    /// Makes room in the two rows of each vertex for its neighbours and an eighth more. No row loses room, also where
-    /// `NoMemory` comes.
+    /// Makes room in the two rows of each vertex for its neighbours and an eighth more: in the out rows of one stripe after
+    /// the other, and then in the in rows. So rows lie in memory in the order of their tables, in which they are given back.
+    /// No row loses room, also where `NoMemory` comes.
     fn reserve_rows(&mut self, degrees: &[Degree]) -> Result<(), NoMemory>
         ensures { HasRoomOf self.old self.new }
     {
-        for x in 0..self.size() {
-            if let Some(degree) = degrees.get(x as usize)
-                && self.has_vertex(u64::from(x))
-            {
-                self.reserve(x, roomy(degree.outs), x, roomy(degree.ins))?;
+        for stripe in 0..STRIPES {
+            self.reserve_stripe(degrees, stripe)?;
+        }
+        self.reserve_ins(degrees)
+    }
+
+    /// Makes room in the out row of each vertex of a stripe for its neighbours and an eighth more, as `reserve_rows` does.
+    fn reserve_stripe(&mut self, degrees: &[Degree], stripe: usize) -> Result<(), NoMemory>
+        ensures { HasRoomOf self.old self.new }
+    {
+        for x in (stripe..self.present.len()).step_by(STRIPES) {
+            if let Some(degree) = degrees.get(x) {
+                self.reserve_vertex(x as u32, degree.outs, 0)?;
             }
+        }
+        Ok(())
+    }
+
+    /// Makes room in the in row of each vertex for its neighbours and an eighth more, as `reserve_rows` does.
+    fn reserve_ins(&mut self, degrees: &[Degree]) -> Result<(), NoMemory>
+        ensures { HasRoomOf self.old self.new }
+    {
+        for x in 0..self.present.len() {
+            if let Some(degree) = degrees.get(x) {
+                self.reserve_vertex(x as u32, 0, degree.ins)?;
+            }
+        }
+        Ok(())
+    }
+
+    /// Makes room in the two rows of a vertex of the graph for so many neighbours and an eighth more, as `reserve_rows`
+    /// does. For a number that is no vertex it does nothing.
+    fn reserve_vertex(&mut self, x: u32, outs: u64, ins: u64) -> Result<(), NoMemory>
+        ensures { HasRoomOf self.old self.new }
+    {
+        if self.has_vertex(u64::from(x)) {
+            self.reserve(x, roomy(outs), x, roomy(ins))?;
         }
         Ok(())
     }

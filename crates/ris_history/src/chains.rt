@@ -2,18 +2,21 @@ ghost use Rattle.std.specs.Prelude.{◌≡◌, ◌≤◌, ◌-◌, [], All, OnOk
 ghost use Rattle.ris_history.specs.Chains.{latest, pushed, advanced, drops};
 
 use crate::held::Held;
+use crate::laters::Later;
 use ris_base::NoMemory;
 use std::alloc::Global;
-use std::collections::VecDeque;
 use std::marker::Model;
+use std::mem::size_of;
 
 /// What held of one vertex by one analysis: a first item, and the changes after it in order of their places. The first
-/// item is what there was at place 0, or a change.
+/// item is what there was at place 0, or a change. There is a chain for each vertex and analysis, so it is kept small.
 #[derive(Drop)]
 pub struct Chain {
     first: Held,
-    later: VecDeque<Held>,
+    later: Later,
 }
+
+const _: () = prove!(size_of::<Chain>() == 56);
 
 impl Model for Chain {
     ghost use Rattle.std.specs.List.Sorted.{IsNonDecreasingBy};
@@ -21,19 +24,19 @@ impl Model for Chain {
 
     ghost Value = { ChainView };
 
-    ghost view = { λ c. record { first = c.first; later = c.later.items } };
+    ghost view = { λ c. record { first = c.first; later = c.later } };
 
-    ghost invariant = { λ c. IsNonDecreasingBy (λ held. held.place) c.later.items };
+    ghost invariant = { λ c. IsNonDecreasingBy (λ held. held.place) c.later };
 }
 
 impl Chain {
     /// A chain of one item. It takes no memory.
-    pub fn new(alloc: Global, first: Held) -> Chain
+    pub fn new(first: Held) -> Chain
         ensures { result ≡ record { first = first; later = [] } }
     {
         Chain {
             first,
-            later: VecDeque::new(alloc),
+            later: Later::new(),
         }
     }
 
@@ -41,31 +44,26 @@ impl Chain {
     pub fn latest(&self, v: u64) -> &Held
         ensures { result.now ≡ latest self.now v }
     {
-        let count = self.later.partition_point(|held| held.place() <= v);
-        if count == 0 {
-            &self.first
-        } else {
-            &self.later[count - 1]
+        match self.later.latest(v) {
+            Some(held) => held,
+            None => &self.first,
         }
     }
 
     /// One change more, whose place isn't below those before it. After `NoMemory` the chain is as before.
-    pub fn push(&mut self, held: Held) -> Result<(), NoMemory>
+    pub fn push(&mut self, alloc: Global, held: Held) -> Result<(), NoMemory>
         requires { All (λ earlier. earlier.place ≤ held.place) self.old.later }
         ensures ok { OnOk result (self.new ≡ pushed held self.old) }
         ensures err { OnErr result (self.new ≡ self.old) }
     {
-        match self.later.push_back(held) {
-            Ok(()) => Ok(()),
-            Err(_) => Err(NoMemory),
-        }
+        self.later.push(alloc, held)
     }
 
     /// Takes back the last change, where there is one.
     pub fn pop(&mut self)
         ensures { self.new ≡ record self.old { later = take (length self.old.later - 1) self.old.later } }
     {
-        let _ = self.later.pop_back();
+        self.later.pop_back();
     }
 
     /// Drops the first item where there is a change behind it, which then is the first, and tells whether it did.

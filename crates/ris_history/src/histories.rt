@@ -31,7 +31,8 @@ use std::marker::Model;
 ///
 /// A session's marks and leaves raise the floor, which never falls. A change is dropped exactly where a later change of
 /// the same vertex and analysis stands at a place of at most the floor. A change takes 40 bytes, and 16 more while the
-/// floor hasn't passed it; each vertex number up to the greatest that was named has a chain for each analysis.
+/// floor hasn't passed it. Each vertex number up to the greatest that was named has a chain for each analysis, which takes
+/// 56 bytes, and about as many more once it had a change.
 #[derive(Drop)]
 pub struct History {
     table: Table,

@@ -5,6 +5,7 @@ mod chains;
 mod growth;
 mod held;
 mod histories;
+mod laters;
 mod laws;
 mod moves;
 mod numbers;

@@ -7,11 +7,13 @@ use crate::held::Held;
 use crate::numbers::{is_taken, number};
 use crate::trims::Due;
 use ris_base::{Change, Changes, NoMemory};
+use std::alloc::Global;
 use std::collections::VecDeque;
 
 /// A change more in its chain and in the queue, where it is taken. After `NoMemory` both are as before.
 fn push(
     chains: &mut Vec<Chain>,
+    alloc: Global,
     dues: &mut VecDeque<Due>,
     analyses: u32,
     place: u64,
@@ -32,7 +34,7 @@ fn push(
         return Err(NoMemory);
     }
     let held = Held::new(place, change.value, change.parent);
-    if chains[chain].push(held).is_err() {
+    if chains[chain].push(alloc, held).is_err() {
         let _ = dues.pop_back();
         return Err(NoMemory);
     }
@@ -56,6 +58,7 @@ fn take_back(chains: &mut Vec<Chain>, analyses: u32, changes: &Changes, count: u
 /// All changes of an entry in their chains and in the queue. After `NoMemory` both are as before.
 pub fn push_all(
     chains: &mut Vec<Chain>,
+    alloc: Global,
     dues: &mut VecDeque<Due>,
     analyses: u32,
     place: u64,
@@ -70,7 +73,7 @@ pub fn push_all(
 {
     let waiting = dues.len();
     for k in 0..changes.len() {
-        if push(chains, dues, analyses, place, changes.at(k)).is_err() {
+        if push(chains, alloc, dues, analyses, place, changes.at(k)).is_err() {
             take_back(chains, analyses, changes, k);
             dues.truncate(waiting);
             return Err(NoMemory);

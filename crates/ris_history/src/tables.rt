@@ -5,7 +5,7 @@ ghost use Rattle.ris_base.specs.declared.analyses.Value.TheVariants.{Absent};
 ghost use Rattle.ris_history.specs.HistoryView.{shown};
 
 use crate::chains::Chain;
-use crate::growth::{grow, put_rows};
+use crate::growth::{grow, put_rows, room_for};
 use crate::numbers::{bound_of, number};
 use crate::pushes::push_all;
 use crate::trims;
@@ -46,9 +46,9 @@ impl Table {
         let Ok(analyses) = u32::try_from(forests.len()) else {
             return Err(NoMemory);
         };
-        let mut chains = Vec::new(alloc);
+        let mut chains = Vec::with_capacity(alloc, room_for(forests))?;
         for a in 0..analyses {
-            put_rows(&mut chains, alloc, analyses, a, forests.at(u64::from(a)))?;
+            put_rows(&mut chains, analyses, a, forests.at(u64::from(a)))?;
         }
         Ok(Table {
             chains,
@@ -73,13 +73,10 @@ impl Table {
             return Err(NoMemory);
         };
         let (size, waiting) = (self.chains.len(), self.dues.len());
-        grow(
-            &mut self.chains,
-            self.alloc,
-            bound_of(self.analyses, changes),
-        )?;
+        grow(&mut self.chains, bound_of(self.analyses, changes))?;
         if push_all(
             &mut self.chains,
+            self.alloc,
             &mut self.dues,
             self.analyses,
             front,

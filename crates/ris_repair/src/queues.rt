@@ -36,14 +36,16 @@ fn pop_better(line: &mut Line, pile: &mut Pile) -> Result<Option<(u64, u32)>, No
     Ok(line.pop())
 }
 
-/// Vertices that wait, each with a priority. Those with the greatest priority are taken first. A vertex stands in one of
-/// two lines, where its priority is at most that of the last one there, and else lies in a pile. So vertices that come
-/// with priorities that don't rise, as in breadth-first search, stand in line and take constant time each.
+/// Vertices that wait, each with a priority. Those with the greatest priority are taken first. In a queue for a whole graph a
+/// vertex stands in one of two lines, where its priority is at most that of the last one there, and else lies in a pile. So
+/// vertices that come with priorities that don't rise, as in breadth-first search, stand in line and take constant time
+/// each. In a queue for a request, at which few wait, all lie in the pile: lines would take memory of their own.
 #[derive(Drop)]
 pub(crate) struct Queue {
     first: Line,
     second: Line,
     pile: Pile,
+    lined: bool,
 }
 
 impl Model for Queue {
@@ -55,7 +57,7 @@ impl Model for Queue {
 }
 
 impl Queue {
-    /// A queue in which nothing waits. It takes no memory before the first vertex, and then at once for some.
+    /// A queue in which nothing waits, for a request. It takes no memory before the first vertex, and then at once for some.
     pub(crate) fn new(alloc: Global) -> Queue
         ensures { result ≡ [] }
     {
@@ -63,10 +65,11 @@ impl Queue {
             first: Line::new(alloc),
             second: Line::new(alloc),
             pile: Pile::new(alloc),
+            lined: false,
         }
     }
 
-    /// A queue in which nothing waits, for a whole graph: its pile is one for many vertices.
+    /// A queue in which nothing waits, for a whole graph: it has lines, and its pile is one for many vertices.
     pub(crate) fn whole(alloc: Global) -> Result<Queue, NoMemory>
         ensures { IfOk result (λ queue. queue ≡ []) }
     {
@@ -75,19 +78,21 @@ impl Queue {
             first: Line::new(alloc),
             second: Line::new(alloc),
             pile,
+            lined: true,
         })
     }
 
-    /// One vertex more waits: in the first line that takes it, else in the pile. After `NoMemory` the same ones wait.
+    /// One vertex more waits: in the first line that takes it, where the queue has lines, else in the pile. After `NoMemory`
+    /// the same ones wait.
     #[inline(always)]
     pub(crate) fn push(&mut self, priority: u64, vertex: u32) -> Result<(), NoMemory>
         ensures items { OnOk result (IsPermutation ((priority, vertex) ∷ self.old) self.new) }
         ensures unchanged { OnErr result (IsPermutation self.old self.new) }
     {
-        if self.first.takes(priority) {
+        if self.lined && self.first.takes(priority) {
             return self.first.push(priority, vertex);
         }
-        if self.second.takes(priority) {
+        if self.lined && self.second.takes(priority) {
             return self.second.push(priority, vertex);
         }
         self.pile.push(priority, vertex)

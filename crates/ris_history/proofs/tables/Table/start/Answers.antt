@@ -12,8 +12,8 @@ use Rattle.ris_history.proofs.tables.Table.start.Goals as goal
 
 pub loop-a-init : goal.loop-a-init
 loop-a-init c = record {
-  chains = ap (with_forests c.in-Ok.analyses 0 c.args.forests.now) c.new-chains.ensures.items;
-  size = let none = ap length c.new-chains.ensures.items in omega arith;
+  chains = ap (with_forests c.in-Ok.analyses 0 c.args.forests.now) c.in_ok-chains.ensures.items;
+  size = let none = ap length c.in_ok-chains.ensures.items in omega arith;
 }
 
 pub loop-a-preserved : goal.loop-a-preserved
