@@ -6,6 +6,7 @@ mod adding;
 mod deltas;
 mod fews;
 mod frontiers;
+mod lined_piles;
 mod marking;
 mod piles;
 mod pulling;

@@ -5,7 +5,7 @@ use Rattle.std.specs.Option.{IfSome}
 use Rattle.std.proofs.lemmas.List.Sorted.{IsPermutation-append_right}
 use Rattle.ris_repair.proofs.FoundLemmas.{on_err}
 use Rattle.ris_repair.proofs.PartLemmas.{taken_pile, taken_line, none_waits}
-use Rattle.ris_repair.proofs.queues.pop_better.Goals as goal
+use Rattle.ris_repair.proofs.lined_piles.pop_better.Goals as goal
 
 pub returns-in_err-top-clause-unchanged : goal.returns-in_err-top-clause-unchanged
 returns-in_err-top-clause-unchanged c =

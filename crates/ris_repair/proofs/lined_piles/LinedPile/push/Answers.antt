@@ -4,7 +4,7 @@ use Rattle.std.specs.List.Sorted.{IsPermutation}
 use Rattle.std.proofs.lemmas.List.Sorted.{IsPermutation-append_right}
 use Rattle.std.proofs.lemmas.Result.{on_ok_weaker, on_err_weaker}
 use Rattle.ris_repair.proofs.PartLemmas.{joined_first, joined_second, joined_pile}
-use Rattle.ris_repair.proofs.queues.Queue.push.Goals as goal
+use Rattle.ris_repair.proofs.lined_piles.LinedPile.push.Goals as goal
 
 pub returns-then-takes-clause-items : goal.returns-then-takes-clause-items
 returns-then-takes-clause-items c =
