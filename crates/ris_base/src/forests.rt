@@ -1,4 +1,4 @@
-ghost use Rattle.std.specs.Prelude.{◌≡◌, ◌<◌, [], ◌∷◌, ◌++◌, List, All, length, drop, OnOk, OnErr, slice_get};
+ghost use Rattle.std.specs.Prelude.{◌≡◌, ◌<◌, [], ◌∷◌, ◌++◌, List, All, length, drop, OnOk, OnErr, IfOk, slice_get};
 ghost use Rattle.std.specs.Option.{option_copied};
 
 use crate::{NoMemory, Sequence, Value};
@@ -52,6 +52,15 @@ impl ForestRows {
         ForestRows {
             rows: Sequence::new(alloc),
         }
+    }
+
+    /// No rows, with the memory for `n` at once. How much room a list has is part of no contract.
+    pub fn with_room(alloc: Global, n: u64) -> Result<ForestRows, NoMemory>
+        ensures { IfOk result (λ rows. rows ≡ []) }
+    {
+        Ok(ForestRows {
+            rows: Sequence::with_room(alloc, n)?,
+        })
     }
 
     /// One row more, at the end. After `NoMemory` the rows are as before.

@@ -74,7 +74,7 @@ fn rows_of_a_forest_ascend(rt: HostRuntime) -> Result<(), Fail> {
         value: Value::Num(u64::from(vertex)),
         parent: Parent::None,
     };
-    let mut rows = ForestRows::new(rt.alloc());
+    let mut rows = ForestRows::with_room(rt.alloc(), 2)?;
     rows.push(row(2))?;
     rows.push(row(5))?;
     assert_eq!(rt; (rows.len(), rows.get(1).copied()), (2, Some(row(5))));

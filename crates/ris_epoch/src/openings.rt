@@ -37,7 +37,7 @@ fn rows_of(
     requires below { AreBelow vertices (forests_of analyses.now) }
     ensures { IfOk result (λ rows. (F : Forest) → slice_get (forests_of analyses.now) a ≡ Some F → forest_in rows ≡ F) }
 {
-    let mut rows = ForestRows::new(alloc);
+    let mut rows = ForestRows::with_room(alloc, u64::from(vertices))?;
     for x in 0..vertices {
         let value = analyses.value(a, x as u64);
         let parent = analyses.parent(a, x as u64);

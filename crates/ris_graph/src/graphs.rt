@@ -18,7 +18,7 @@ use std::marker::Model;
 /// Its cursors count by a meter of the type `M`.
 ///
 /// Each vertex number up to the greatest that was present has two rows, of its out neighbours and of its in neighbours,
-/// which take 48 bytes, and a byte for whether it is present. A triple takes 48 bytes more, with all its copies. The out
+/// which take 48 bytes, and a byte for whether it is present. A triple takes 40 bytes more, with all its copies. The out
 /// rows stand in 64 stripes, which may be lent to workers.
 #[derive(Drop)]
 pub struct Graph<M> {

@@ -10,8 +10,6 @@ use Rattle.ris_base.specs.declared.forests.Parent.{Parent}
 use Rattle.ris_algo.specs.Spreading.{State}
 use Rattle.ris_repair.specs.Priority.{priority_of}
 use Rattle.ris_repair.specs.declared.stores.Change.{Change}
-use Rattle.ris_repair.specs.declared.stores.Stage.{Stage}
-use Rattle.ris_repair.specs.declared.stores.Stage.TheVariants.{Unchanged, Settled, Waiting}
 
 -- the value of a change, else this one
 abbrev pub value_or : Value → Option Change → Value
@@ -37,11 +35,6 @@ is_number (Num c) = true
 abbrev pub is_waiting : Option Change → Bool
 is_waiting None = false
 is_waiting (Some c) = is_number c.value && not c.settled
-
--- what a vertex has so far, without its parent
-abbrev pub stage_of : Option Change → Stage
-stage_of None = Unchanged
-stage_of (Some c) = if c.settled then Settled else Waiting c.value
 
 -- the values, parents and stages that a table of changes makes of a forest
 abbrev pub state_of : Forest → (ℕ → Option Change) → State

@@ -9,17 +9,20 @@ ghost use Rattle.ris_repair.specs.Crossing.{crosses, crossed};
 ghost use Rattle.ris_repair.specs.Stores.{change_at};
 
 use crate::queues::{Queue, priority};
-use crate::stores::{Change, Stage, Store};
+use crate::stores::{Change, Store};
 use ris_algo::Monotone;
 use ris_base::{NoMemory, Parent, Triple, Value};
 use ris_forest::Forest;
+use ris_rows::Glance;
 use std::alloc::Global;
 
-/// The vertices that changed, and those of them that wait for their neighbours to be handed out.
+/// The vertices that changed, and those of them that wait for their neighbours to be handed out; and what was seen of the
+/// rows of those that come next.
 #[derive(Drop)]
 pub(crate) struct Frontier {
     pub changes: Store,
     pub queue: Queue,
+    pub glance: Glance,
 }
 
 /// Whether a number is better than a value; it is better than none.
@@ -41,6 +44,7 @@ impl Frontier {
         Frontier {
             changes: Store::sparse(alloc),
             queue: Queue::new(alloc),
+            glance: Glance::none(),
         }
     }
 
@@ -51,7 +55,11 @@ impl Frontier {
     {
         let changes = Store::dense(alloc, size)?;
         let queue = Queue::whole(alloc)?;
-        Ok(Frontier { changes, queue })
+        Ok(Frontier {
+            changes,
+            queue,
+            glance: Glance::none(),
+        })
     }
 
     /// Whether the vertex `end` isn't settled and this number is better than what it has.
@@ -59,12 +67,10 @@ impl Frontier {
     fn takes<A: Monotone>(&self, forest: &Forest<A>, end: u32, number: u64) -> bool
         ensures { result ≡ is_better (A.spec forest.now.algo).kind (forest_of forest.now.cells) (change_at self.now.changes) end number }
     {
-        let present = match self.changes.stage(end) {
-            Stage::Settled => return false,
-            Stage::Waiting(value) => value,
-            Stage::Unchanged => forest.value(end as u64),
-        };
-        wins(forest.algo(), number, present)
+        match self.changes.get(end) {
+            Some(change) => wins(forest.algo(), number, change.value) && !change.settled,
+            None => wins(forest.algo(), number, forest.value(end as u64)),
+        }
     }
 
     /// Gives the vertex `end` this number, which is better than what it has, and this parent, and lets it wait.

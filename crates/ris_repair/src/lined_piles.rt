@@ -70,6 +70,16 @@ impl LinedPile {
         self.pile.push(priority, vertex)
     }
 
+    /// A vertex that is likely to be taken soon, other than those of lower places: of the pile, or of the line that leads.
+    /// Which one is part of no contract.
+    pub(crate) fn coming(&self, place: usize) -> Option<u32> {
+        match self.pile.coming(place) {
+            None if leads(self.second.best(), self.first.best()) => self.second.at(place),
+            None => self.first.at(place),
+            found => found,
+        }
+    }
+
     /// Takes a vertex of the greatest priority. `None` exactly where nothing waits. After `NoMemory` the same ones wait.
     pub(crate) fn pop(&mut self) -> Result<Option<(u64, u32)>, NoMemory>
         ensures items { IfOk result (λ found. IfSome found (λ top. IsPermutation self.old (top ∷ self.new))) }

@@ -91,6 +91,11 @@ impl Pile {
         Ok(())
     }
 
+    /// A vertex that is likely to be taken soon, as `Radix::coming` has it.
+    pub(crate) fn coming(&self, place: usize) -> Option<u32> {
+        self.radix.coming(place)
+    }
+
     /// Takes a vertex of the greatest priority, where that is above the bound, if there is one. `None` exactly where none is.
     /// After `NoMemory` the same ones wait. Of two that are equal, the binary heap's is taken first.
     pub(crate) fn pop_above(&mut self, bound: Option<u64>) -> Result<Option<(u64, u32)>, NoMemory>

@@ -18,9 +18,31 @@ use ris_algo::Monotone;
 use ris_base::{Meter, NoMemory, Parent};
 use ris_forest::Forest;
 use ris_graph::Graph;
-use ris_rows::Cursor;
+use ris_rows::{Cursor, Glance};
+
+/// At how many vertices a look ahead looks, and after how many turns the next one comes.
+const AHEAD: usize = 8;
 
 impl Frontier {
+    /// Looks at the rows of the vertices of a whole graph that are likely to be taken next: many rows at once wait for memory
+    /// hardly longer than one. It does so once in `AHEAD` turns.
+    fn look_ahead<A: Monotone, M: Meter>(&self, graph: &Graph<M>, turn: usize) -> Glance {
+        let mut glance = self.glance;
+        if turn % AHEAD != 0 {
+            return glance;
+        }
+        for place in 0..AHEAD {
+            let Some(vertex) = self.queue.coming(place) else {
+                break;
+            };
+            glance = graph.out_cursor(vertex).glance(glance);
+            if A::BOTH_WAYS {
+                glance = graph.in_cursor(vertex).glance(glance);
+            }
+        }
+        glance
+    }
+
     /// Offers each neighbour in a row the step from the number of a settled vertex.
     fn push_row<A: Monotone, M: Meter>(
         &mut self,
@@ -100,7 +122,10 @@ impl Frontier {
             → Covers g (A.spec forest.now.algo) (forest_of forest.now.cells) fallen xs
             → IsRise (M.ticks meter.old) (M.ticks meter.new) (sum_by (push g (A.spec forest.now.algo)) xs) }
     {
+        let mut turn: usize = 0;
         while let Some((vertex, number)) = self.take_best(forest)? {
+            self.glance = self.look_ahead::<A, M>(graph, turn);
+            turn = turn.wrapping_add(1);
             self.push_vertex(graph, forest, vertex, number, meter)?;
         }
         Ok(())

@@ -107,6 +107,13 @@ impl Line {
         }
     }
 
+    /// The vertex at a place, counted from 0.
+    #[inline(always)]
+    pub(crate) fn at(&self, place: usize) -> Option<u32> {
+        let item = self.items.get(place)?;
+        Some(item.1)
+    }
+
     /// Takes the first vertex, which is one of the greatest priority. `None` exactly where nothing waits.
     #[inline(always)]
     pub(crate) fn pop(&mut self) -> Option<(u64, u32)>

@@ -71,6 +71,14 @@ impl Queue {
         }
     }
 
+    /// A vertex of a whole graph that is likely to be taken soon, as `LinedPile::coming` has it, and none of a request.
+    pub(crate) fn coming(&self, place: usize) -> Option<u32> {
+        match &self.whole {
+            Some(whole) => whole.coming(place),
+            None => None,
+        }
+    }
+
     /// Takes a vertex of the greatest priority. `None` exactly where nothing waits. After `NoMemory` the same ones wait.
     #[inline(always)]
     pub(crate) fn pop(&mut self) -> Result<Option<(u64, u32)>, NoMemory>

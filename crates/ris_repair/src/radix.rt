@@ -83,6 +83,11 @@ impl Buckets {
         swap(&mut self.lists[number], other);
     }
 
+    /// The vertex at a place in bucket 0, counted from its end.
+    fn from_end(&self, place: usize) -> Option<u32> {
+        from_end(self.lists.first()?, place)
+    }
+
     /// The first bucket that isn't empty. `None` exactly where each is.
     fn lowest(&self) -> Option<usize>
         ensures some { IfSome result (IsLowest self.now) }
@@ -90,6 +95,13 @@ impl Buckets {
     {
         first_filled(&self.lists)
     }
+}
+
+/// The vertex at a place, counted from the end.
+fn from_end(items: &[(u64, u32)], place: usize) -> Option<u32> {
+    let later = place.checked_add(1)?;
+    let item = items.get(items.len().checked_sub(later)?)?;
+    Some(item.1)
 }
 
 /// The place of the first list that isn't empty. `None` exactly where each is.
@@ -256,6 +268,14 @@ impl Radix {
         self.used = true;
         put(&mut self.buckets, self.last, (priority, vertex))?;
         Ok(true)
+    }
+
+    /// A vertex that is likely to be taken soon, other than those of lower places. Which one is part of no contract.
+    pub(crate) fn coming(&self, place: usize) -> Option<u32> {
+        match self.buckets.from_end(place) {
+            None => from_end(&self.moving, place),
+            found => found,
+        }
     }
 
     /// Takes a vertex of the greatest priority, where that is above the bound, if there is one. `None` exactly where none is.

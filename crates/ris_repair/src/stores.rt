@@ -1,5 +1,5 @@
 ghost use Rattle.std.specs.Prelude.{◌≡◌, ◌==◌, ℕ, Some, None, false, OnOk, OnErr, IfOk, IfSome, IfNone};
-ghost use Rattle.ris_repair.specs.Changes.{IsTakenChange, IsNoRank, stage_of};
+ghost use Rattle.ris_repair.specs.Changes.{IsTakenChange, IsNoRank};
 ghost use Rattle.ris_repair.specs.Stores.{change_at};
 
 use crate::fews::{FEW_LIMIT, Few};
@@ -40,31 +40,6 @@ impl Change {
     }
 }
 
-/// What a vertex has so far, without its parent.
-#[derive(Clone, Copy)]
-pub(crate) enum Stage {
-    /// It didn't change.
-    Unchanged,
-    /// It changed, and its neighbours were handed out.
-    Settled,
-    /// It changed to this value, and its neighbours weren't handed out.
-    Waiting(Value),
-}
-
-impl Stage {
-    /// The stage of a vertex with this change, or with none.
-    #[inline(always)]
-    fn of(change: Option<Change>) -> Stage
-        ensures { result ≡ stage_of change }
-    {
-        match change {
-            None => Stage::Unchanged,
-            Some(change) if change.settled => Stage::Settled,
-            Some(change) => Stage::Waiting(change.value),
-        }
-    }
-}
-
 /// The changes of vertices, at most one of each vertex.
 #[derive(Drop)]
 pub(crate) enum Store {
@@ -101,18 +76,6 @@ impl Store {
             Store::Few(few) => few.get(vertex),
             Store::Sparse(map) => map.get(&vertex).copied(),
             Store::Dense(table) => table.get(vertex),
-        }
-    }
-
-    /// What a vertex has so far, without its parent.
-    #[inline(always)]
-    pub(crate) fn stage(&self, vertex: u32) -> Stage
-        ensures { result ≡ stage_of (change_at self.now vertex) }
-    {
-        match self {
-            Store::Few(few) => Stage::of(few.get(vertex)),
-            Store::Sparse(map) => Stage::of(map.get(&vertex).copied()),
-            Store::Dense(table) => table.stage(vertex),
         }
     }
 

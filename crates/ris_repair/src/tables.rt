@@ -1,9 +1,9 @@
 ghost use Rattle.std.specs.Prelude.{◌≡◌, ◌==◌, ◌<◌, ◌≤◌, ℕ, Some, None, false, OnOk, OnErr, IfOk, IfSome, IfNone, length, replicate, slice_index_or};
-ghost use Rattle.ris_repair.specs.Changes.{IsTakenChange, IsNoRank, stage_of};
+ghost use Rattle.ris_repair.specs.Changes.{IsTakenChange, IsNoRank};
 ghost use Rattle.ris_repair.specs.Tables.{change_of, number_or_zero};
 
 use crate::queues::priority;
-use crate::stores::{Change, Stage};
+use crate::stores::Change;
 use ris_algo::Monotone;
 use ris_base::{NoMemory, Parent, Value};
 use std::alloc::Global;
@@ -137,29 +137,6 @@ impl Table {
             parent: self.parents[place],
             settled: mark.settled,
         })
-    }
-
-    /// What a vertex has so far, without its parent. It looks at the mark first, and at the number only where one waits.
-    #[inline(always)]
-    pub(crate) fn stage(&self, vertex: u32) -> Stage
-        ensures { result ≡ stage_of (slice_index_or self.now vertex None) }
-    {
-        let place = vertex as usize;
-        if place >= self.marks.len() {
-            return Stage::Unchanged;
-        }
-        let mark = self.marks[place];
-        if let MarkKind::Unchanged = mark.kind {
-            return Stage::Unchanged;
-        }
-        if mark.settled {
-            return Stage::Settled;
-        }
-        match mark.kind {
-            MarkKind::Number => Stage::Waiting(Value::Num(self.numbers[place])),
-            MarkKind::Unreached => Stage::Waiting(Value::Unreached),
-            _ => Stage::Waiting(Value::Absent),
-        }
     }
 
     /// Gives a vertex this change in place of the one that it had. The table grows where it has no such place. After

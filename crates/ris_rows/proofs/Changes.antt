@@ -1,5 +1,5 @@
 -- What another number of copies makes of a list of neighbours.
-use Rattle.std.proofs.Common.{◌≡◌, ℕ, ◌+◌, ◌-◌, ◌≤◌, true, false, IsTrue, ◌&&◌, ◌==◌, nat_lt, if◌then◌else◌, List, [], ◌∷◌, ◌++◌, length, get_or, set, arith, refl, inl, inr, sym, ap, subst, ◌∙◌, zero-add}
+use Rattle.std.proofs.Common.{◌≡◌, ℕ, ◌+◌, ◌-◌, ◌≤◌, true, false, IsTrue, ◌&&◌, ◌==◌, nat_lt, if◌then◌else◌, List, [], ◌∷◌, ◌++◌, length, set, arith, refl, inl, inr, sym, ap, subst, ◌∙◌, zero-add}
 use Rattle.std.specs.List.{insert, remove}
 use Rattle.std.proofs.lemmas.Bool.{cases_Bool, both_ways, eqb-true, eqb-false, ne_eqb}
 use Rattle.std.proofs.lemmas.Bool.Decides.{nat_tests}
@@ -9,24 +9,17 @@ use Rattle.ris_rows.specs.Neighbours.{is_before, is_of, IsBeforeAll, IsAscending
 use Rattle.ris_rows.proofs.Orders.{below-trans, below-same, below-other, same-first, same-second}
 use Rattle.ris_rows.proofs.Positions.{copies_of-past, copies_of-missing, has-past}
 
--- the neighbour with another number of copies
-abbrev pub with_copies : Neighbour → ℕ → Neighbour
-with_copies n k = record { end = n.end; weight = n.weight; copies = k }
-
 pub listed-some : (e w k : ℕ) → 1 ≤ k → listed e w k ≡ record { end = e; weight = w; copies = k } ∷ []
 listed-some e w k h = let t = ne_eqb k 0 (λ q. omega arith) in rw t refl
 
-listed-of : (n : Neighbour) (e w k : ℕ) → is_of n e w ≡ true → 1 ≤ k → listed e w k ≡ with_copies n k ∷ []
-listed-of n e w k s h = rw (same-first n.end n.weight e w s, same-second n.end n.weight e w s) (listed-some e w k h)
-
 -- what a write of the number of copies at the place makes, and what a removal there makes
-pub counted-found : (ns : List Neighbour) (e w k : ℕ) (d : Neighbour) → has ns e w ≡ true → 1 ≤ k
-    → counted ns e w k ≡ set ns (place_of ns e w) (with_copies (get_or ns (place_of ns e w) d) k)
-counted-found [] e w k d found some = absurd (both_ways false refl found)
-counted-found (n ∷ ns) e w k d found some =
+pub counted-found : (ns : List Neighbour) (e w k : ℕ) → has ns e w ≡ true → 1 ≤ k
+    → counted ns e w k ≡ set ns (place_of ns e w) (record { end = e; weight = w; copies = k })
+counted-found [] e w k found some = absurd (both_ways false refl found)
+counted-found (n ∷ ns) e w k found some =
     elim (cases_Bool (is_before n e w)) [
-      | inl t ↦ (let found' : has ns e w ≡ true = rw t at found in rw t (ap (λ (l : List Neighbour). n ∷ l) (counted-found ns e w k d found' some)))
-      | inr u ↦ (let found' : is_of n e w ≡ true = rw u at found in rw (u, found', listed-of n e w k found' some) refl)
+      | inl t ↦ (let found' : has ns e w ≡ true = rw t at found in rw t (ap (λ (l : List Neighbour). n ∷ l) (counted-found ns e w k found' some)))
+      | inr u ↦ (let found' : is_of n e w ≡ true = rw u at found in rw (u, found', listed-some e w k some) refl)
     ]
 
 pub counted-gone : (ns : List Neighbour) (e w : ℕ) → has ns e w ≡ true → counted ns e w 0 ≡ remove ns (place_of ns e w)

@@ -1,7 +1,8 @@
 ghost use Rattle.std.specs.Prelude.{◌≡◌, [], ◌+◌, ◌-◌, ◌^◌, min, drop, slice_get, if◌then◌else◌, is_some};
 ghost use Rattle.std.specs.Option.{option_map};
 
-use crate::neighbours::Neighbour;
+use crate::glances::Glance;
+use crate::neighbours::Packed;
 use ris_base::Meter;
 use std::marker::{Model, PhantomData};
 use std::slice::Iter;
@@ -9,7 +10,7 @@ use std::slice::Iter;
 /// Hands out the neighbours of a row, in order. Contracts see it as the list of the neighbours that are left.
 #[derive(Drop)]
 pub struct Cursor<'a, M> {
-    rest: Iter<'a, Neighbour>,
+    rest: Iter<'a, Packed>,
     meter: PhantomData<M>,
 }
 
@@ -31,8 +32,18 @@ impl<'a, M> Cursor<'a, M> {
         Cursor::over(&[])
     }
 
+    /// A look at the next neighbour, if there is one, beside what was seen before. It hands out nothing, so no meter ticks.
+    /// Constant time.
+    #[inline(always)]
+    pub fn glance(mut self, before: Glance) -> Glance {
+        match self.rest.next() {
+            Some(item) => before.with(item.neighbour().end),
+            None => before,
+        }
+    }
+
     /// A cursor before the first of the items.
-    pub(crate) fn over(items: &'a [Neighbour]) -> Cursor<'a, M>
+    pub(crate) fn over(items: &'a [Packed]) -> Cursor<'a, M>
         ensures { result ≡ items.now }
     {
         Cursor {
@@ -52,7 +63,7 @@ impl<'a, M: Meter> Cursor<'a, M> {
         ensures rest { self.new ≡ drop 1 self.old }
         ensures ticks { M.ticks meter.new ≡ (if is_some result then min (M.ticks meter.old + 1) (2 ^ 64 - 1) else M.ticks meter.old) }
     {
-        let item = self.rest.next()?;
+        let item = self.rest.next()?.neighbour();
         meter.tick();
         Some((item.end, item.weight, item.copies))
     }

@@ -3,6 +3,7 @@
 #![tactic(auto)]
 
 mod cursors;
+mod glances;
 mod lists;
 mod neighbours;
 mod rows;
@@ -10,5 +11,6 @@ mod rows;
 mod tests;
 
 pub use cursors::Cursor;
+pub use glances::Glance;
 pub use neighbours::Neighbour;
 pub use rows::Row;

@@ -2,7 +2,7 @@ ghost use Rattle.std.specs.Prelude.{◌≡◌, ◌+◌, ◌-◌, ◌^◌, ◌<�
 ghost use Rattle.std.specs.Bool.{OnFalse};
 ghost use Rattle.ris_rows.specs.Neighbours.{IsAscending, copies_of};
 
-use crate::neighbours::Neighbour;
+use crate::neighbours::Packed;
 use crate::{Cursor, lists};
 use ris_base::NoMemory;
 use std::alloc::Global;
@@ -11,12 +11,12 @@ use std::marker::{Model, PhantomData};
 /// The neighbours of one vertex: a list that ascends by the other end and then by the weight, in which each item
 /// stands once, with its number of copies, which is at least 1. Its cursors count by a meter of the type `M`.
 ///
-/// A row takes 24 bytes and a neighbour 24 more, and a row may have as many as memory has room for. Neighbours are found
+/// A row takes 24 bytes and a neighbour 20 more, and a row may have as many as memory has room for. Neighbours are found
 /// by binary search (Knuth, The Art of Computer Programming, volume 3, section 6.2.1). An insert or a removal of an item
 /// moves the items behind it.
 #[derive(Drop)]
 pub struct Row<M> {
-    items: Vec<Neighbour>,
+    items: Vec<Packed>,
     meter: PhantomData<M>,
 }
 

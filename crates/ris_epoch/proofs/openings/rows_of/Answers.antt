@@ -13,8 +13,8 @@ use Rattle.ris_epoch.proofs.openings.rows_of.Goals as goal
 
 pub loop-x-init : goal.loop-x-init
 loop-x-init c = record {
-  rows = λ F at. c.new-rows.ensures ∙ sym (rows-none F);
-  below = subst (All (λ (r : ForestRow). r.vertex < 0)) (sym c.new-rows.ensures) (All-nil (λ (r : ForestRow). r.vertex < 0));
+  rows = λ F at. c.in_ok-rows.ensures ∙ sym (rows-none F);
+  below = subst (All (λ (r : ForestRow). r.vertex < 0)) (sym c.in_ok-rows.ensures) (All-nil (λ (r : ForestRow). r.vertex < 0));
 }
 
 pub push-requires : goal.push-requires

@@ -1,6 +1,6 @@
-use Rattle.std.proofs.Common.{rules, ◌<◌, sym, length}
+use Rattle.std.proofs.Common.{rules, ◌<◌, ◌∙◌, ap, sym, length}
 use Rattle.ris_rows.specs.declared.neighbours.Neighbour.{Neighbour}
-use Rattle.ris_rows.proofs.Positions.{place_of-lt, copies_of-found, copies_of-missing}
+use Rattle.ris_rows.proofs.Positions.{place_of-lt, copies_of-item, copies_of-missing}
 use Rattle.ris_rows.proofs.lists.copies_at.Goals as goal
 use Rattle.ris_rows.proofs.lists.copies_at.Goals.{In-Ok}
 
@@ -18,8 +18,8 @@ bounds-items-place c = within c
 pub returns-in-Ok : goal.returns-in-Ok
 returns-in-Ok c =
     let found = rw c.in-Ok.is at c.requires.found in
-    let first : Neighbour = record { end = 0; weight = 0; copies = 0 } in
-    rw found.0 (sym (copies_of-found c.args.items.now c.args.end c.args.weight first c.requires.ascending found.1))
+    let there = copies_of-item c.args.items.now c.args.end c.args.weight c.index-items-place.result c.in-Ok.place c.requires.ascending found.0 found.1 c.index-items-place.is in
+    ap (λ (y : Neighbour). y.copies) c.neighbour.ensures ∙ sym there
 
 pub returns-in-Err : goal.returns-in-Err
 returns-in-Err c =

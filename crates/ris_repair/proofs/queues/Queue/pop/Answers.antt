@@ -1,6 +1,6 @@
 -- Where no lines are, the pile has all that waits.
-use Rattle.std.proofs.Common.{◌≡◌, ℕ, ◌∷◌, List, [], refl, subst}
-use Rattle.std.specs.Prelude.{None, IsPermutation}
+use Rattle.std.proofs.Common.{◌≡◌, [], refl}
+use Rattle.std.specs.Prelude.{None}
 use Rattle.ris_repair.proofs.FoundLemmas.{found_some, none_both}
 use Rattle.ris_repair.proofs.PartLemmas.{none_waits, taken_length}
 use Rattle.ris_repair.proofs.queues.Queue.pop.Goals as goal
