@@ -13,16 +13,13 @@ use crate::stores::{Change, Store};
 use ris_algo::Monotone;
 use ris_base::{NoMemory, Parent, Triple, Value};
 use ris_forest::Forest;
-use ris_rows::Glance;
 use std::alloc::Global;
 
-/// The vertices that changed, and those of them that wait for their neighbours to be handed out; and what was seen of the
-/// rows of those that come next.
+/// The vertices that changed, and those of them that wait for their neighbours to be handed out.
 #[derive(Drop)]
 pub(crate) struct Frontier {
     pub changes: Store,
     pub queue: Queue,
-    pub glance: Glance,
 }
 
 /// Whether a number is better than a value; it is better than none.
@@ -44,7 +41,6 @@ impl Frontier {
         Frontier {
             changes: Store::sparse(alloc),
             queue: Queue::new(alloc),
-            glance: Glance::none(),
         }
     }
 
@@ -55,11 +51,7 @@ impl Frontier {
     {
         let changes = Store::dense(alloc, size)?;
         let queue = Queue::whole(alloc)?;
-        Ok(Frontier {
-            changes,
-            queue,
-            glance: Glance::none(),
-        })
+        Ok(Frontier { changes, queue })
     }
 
     /// Whether the vertex `end` isn't settled and this number is better than what it has.

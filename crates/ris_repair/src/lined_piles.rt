@@ -4,6 +4,7 @@ ghost use Rattle.std.specs.List.{All};
 use crate::piles::Pile;
 use crate::queue_lines::{Line, leads};
 use ris_base::NoMemory;
+use ris_rows::Glance;
 use std::alloc::Global;
 use std::marker::Model;
 
@@ -32,6 +33,7 @@ pub(crate) struct LinedPile {
     first: Line,
     second: Line,
     pile: Pile,
+    glance: Glance,
 }
 
 impl Model for LinedPile {
@@ -52,6 +54,7 @@ impl LinedPile {
             first: Line::new(alloc),
             second: Line::new(alloc),
             pile,
+            glance: Glance::none(),
         })
     }
 
@@ -70,14 +73,22 @@ impl LinedPile {
         self.pile.push(priority, vertex)
     }
 
-    /// A vertex that is likely to be taken soon, other than those of lower places: of the pile, or of the line that leads.
-    /// Which one is part of no contract.
+    /// A vertex that is likely to be taken soon, for each place from 0 on mostly another one, or `None`: of the pile, and else
+    /// of the line that leads. Which one is part of no contract.
     pub(crate) fn coming(&self, place: usize) -> Option<u32> {
         match self.pile.coming(place) {
             None if leads(self.second.best(), self.first.best()) => self.second.at(place),
             None => self.first.at(place),
             found => found,
         }
+    }
+
+    /// Keeps what was seen of the rows of vertices that are likely to be taken soon.
+    #[inline(always)]
+    pub(crate) fn keep(&mut self, glance: Glance)
+        ensures { self.new ≡ self.old }
+    {
+        self.glance = glance;
     }
 
     /// Takes a vertex of the greatest priority. `None` exactly where nothing waits. After `NoMemory` the same ones wait.

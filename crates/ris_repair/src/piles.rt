@@ -91,7 +91,7 @@ impl Pile {
         Ok(())
     }
 
-    /// A vertex that is likely to be taken soon, as `Radix::coming` has it.
+    /// A vertex of the radix heap that is likely to be taken soon, as `Radix::coming` has it.
     pub(crate) fn coming(&self, place: usize) -> Option<u32> {
         self.radix.coming(place)
     }

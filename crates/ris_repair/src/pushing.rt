@@ -1,4 +1,4 @@
-ghost use Rattle.std.specs.Prelude.{◌<◌, ◌^◌, ◌++◌, ℕ, List, [], length, OnOk};
+ghost use Rattle.std.specs.Prelude.{◌≡◌, ◌<◌, ◌^◌, ◌++◌, ℕ, List, [], length, OnOk};
 ghost use Rattle.std.specs.List.{All, sum_by};
 ghost use Rattle.ris_base.specs.Falling.{push};
 ghost use Rattle.ris_base.specs.Limits.{vertex_limit};
@@ -20,17 +20,24 @@ use ris_forest::Forest;
 use ris_graph::Graph;
 use ris_rows::{Cursor, Glance};
 
-/// At how many vertices a look ahead looks, and after how many turns the next one comes.
+/// For how many vertices to look ahead at once. So many turns later it is done again.
 const AHEAD: usize = 8;
 
 impl Frontier {
-    /// Looks at the rows of the vertices of a whole graph that are likely to be taken next: many rows at once wait for memory
-    /// hardly longer than one. It does so once in `AHEAD` turns.
-    fn look_ahead<A: Monotone, M: Meter>(&self, graph: &Graph<M>, turn: usize) -> Glance {
-        let mut glance = self.glance;
-        if turn % AHEAD != 0 {
-            return glance;
+    /// Looks, in each turn whose number is a multiple of `AHEAD`, at the rows of as many vertices that are likely to be taken
+    /// next, where a whole graph is repaired: memory answers for many rows at once nearly as soon as for one.
+    fn look_ahead<A: Monotone, M: Meter>(&mut self, graph: &Graph<M>, turn: usize)
+        ensures { self.new ≡ self.old }
+    {
+        if turn % AHEAD == 0 {
+            let glance = self.ahead::<A, M>(graph);
+            self.queue.keep(glance);
         }
+    }
+
+    /// What is seen of the rows of the vertices that are likely to be taken next.
+    fn ahead<A: Monotone, M: Meter>(&self, graph: &Graph<M>) -> Glance {
+        let mut glance = Glance::none();
         for place in 0..AHEAD {
             let Some(vertex) = self.queue.coming(place) else {
                 break;
@@ -124,7 +131,7 @@ impl Frontier {
     {
         let mut turn: usize = 0;
         while let Some((vertex, number)) = self.take_best(forest)? {
-            self.glance = self.look_ahead::<A, M>(graph, turn);
+            self.look_ahead::<A, M>(graph, turn);
             turn = turn.wrapping_add(1);
             self.push_vertex(graph, forest, vertex, number, meter)?;
         }

@@ -6,6 +6,7 @@ use crate::lined_piles::LinedPile;
 use crate::piles::Pile;
 use ris_algo::Monotone;
 use ris_base::NoMemory;
+use ris_rows::Glance;
 use std::alloc::Global;
 use std::marker::Model;
 
@@ -71,11 +72,18 @@ impl Queue {
         }
     }
 
-    /// A vertex of a whole graph that is likely to be taken soon, as `LinedPile::coming` has it, and none of a request.
+    /// A vertex that is likely to be taken soon, as `LinedPile::coming` has it. `None` for a request, whose rows are few.
     pub(crate) fn coming(&self, place: usize) -> Option<u32> {
-        match &self.whole {
-            Some(whole) => whole.coming(place),
-            None => None,
+        self.whole.as_ref()?.coming(place)
+    }
+
+    /// Keeps what was seen of the rows of vertices of a whole graph, as `LinedPile::keep` does.
+    #[inline(always)]
+    pub(crate) fn keep(&mut self, glance: Glance)
+        ensures { self.new ≡ self.old }
+    {
+        if let Some(whole) = &mut self.whole {
+            whole.keep(glance);
         }
     }
 

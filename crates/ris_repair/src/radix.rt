@@ -83,8 +83,8 @@ impl Buckets {
         swap(&mut self.lists[number], other);
     }
 
-    /// The vertex at a place in bucket 0, counted from its end.
-    fn from_end(&self, place: usize) -> Option<u32> {
+    /// The vertex at a place in bucket 0, counted from its end, from which its items are taken.
+    fn from_end_of_first(&self, place: usize) -> Option<u32> {
         from_end(self.lists.first()?, place)
     }
 
@@ -270,9 +270,10 @@ impl Radix {
         Ok(true)
     }
 
-    /// A vertex that is likely to be taken soon, other than those of lower places. Which one is part of no contract.
+    /// A vertex that is likely to be taken soon, for each place from 0 on mostly another one, or `None`. Which one is part of
+    /// no contract.
     pub(crate) fn coming(&self, place: usize) -> Option<u32> {
-        match self.buckets.from_end(place) {
+        match self.buckets.from_end_of_first(place) {
             None => from_end(&self.moving, place),
             found => found,
         }

@@ -19,8 +19,7 @@ pub(crate) enum MarkKind {
     Number,
 }
 
-/// What kind of change a vertex has, and whether it is settled, in two bytes. Both are compared apart: a look at random
-/// vertices jumps by no table, which processors guess wrong often.
+/// What kind of change a vertex has, and whether it is settled, in two bytes.
 #[derive(Clone, Copy)]
 pub(crate) struct Mark {
     pub kind: MarkKind,

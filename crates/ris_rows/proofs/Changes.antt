@@ -12,7 +12,7 @@ use Rattle.ris_rows.proofs.Positions.{copies_of-past, copies_of-missing, has-pas
 pub listed-some : (e w k : ℕ) → 1 ≤ k → listed e w k ≡ record { end = e; weight = w; copies = k } ∷ []
 listed-some e w k h = let t = ne_eqb k 0 (λ q. omega arith) in rw t refl
 
--- what a write of the number of copies at the place makes, and what a removal there makes
+-- what a write of the neighbour at the place makes, and what a removal there makes
 pub counted-found : (ns : List Neighbour) (e w k : ℕ) → has ns e w ≡ true → 1 ≤ k
     → counted ns e w k ≡ set ns (place_of ns e w) (record { end = e; weight = w; copies = k })
 counted-found [] e w k found some = absurd (both_ways false refl found)

@@ -1,5 +1,6 @@
-/// What was seen of rows that someone will go through soon, and looks at beforehand so that their memory is at hand then.
-/// Nothing can be asked of it, so that no neighbour is had that no meter counted; it is kept so that the looks are done.
+/// What was seen of rows at which someone looks beforehand, so that their memory is at hand when their neighbours are handed
+/// out. Nothing can be asked of it, so that a meter counts each neighbour that is had. Whoever looks keeps it, since a
+/// compiler may leave out a look whose outcome goes nowhere.
 #[derive(Clone, Copy)]
 pub struct Glance {
     seen: u32,

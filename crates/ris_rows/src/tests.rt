@@ -41,7 +41,8 @@ fn each_call_answers(rt: HostRuntime) -> Result<(), Fail> {
         assert_eq!(rt; row.remove(end, weight), there, "at {end}, {weight}");
     }
     let mut visits = Visits { total: 40 };
-    let _ = row.cursor().glance(Glance::none());
+    let glance = row.cursor().glance(Glance::none());
+    let _ = Cursor::<Visits>::empty().glance(glance);
     let mut cursor = row.cursor();
     for item in [(5, 0, 1), (6, 6, 4), (7, 4, 1), (7, 5, 1), (8, 0, 2)] {
         assert_eq!(rt; row.count(item.0, item.1), item.2);

@@ -45,7 +45,7 @@ loop-vertex-smaller g c =
     let step = next_settled c.args.graph.now on.0 spec (forest_of c.args.forest.now.cells) vertex_limit on.1
     (change_at c.loop-vertex.self.changes) (change_at c.take_best.new.self.changes) c.loop-vertex.self.queue c.take_best.new.self.queue c.in-Some.vertex c.in-Some.number on.2
     (c.loop-vertex.invariant.kept on.0 on.1 on.2 on.3).0 (rw c.in-Some.is at c.in_ok-vertex.ensures.next) (rw c.in-Some.is at c.in_ok-vertex.ensures.small)
-    (change_at c.push_vertex.new.self.changes) (push on.0 spec) c.push_vertex.ensures.settled in
+    (change_at c.push_vertex.new.self.changes) (push on.0 spec) (rw c.look_ahead.ensures at c.push_vertex.ensures.settled) in
     let one = step.1 in
     omega arith
 
@@ -63,7 +63,7 @@ loop-vertex-preserved g c =
     let ways = (g.met.A.Monotone.of_table c.args.forest.now.algo).ways in
     let after = λ (graph : PlainGraph) (fallen : List ℕ) (of : IsOf c.args.graph.now graph)
     (start : IsPushing graph spec F n fallen (change_at c.args.self.now.changes) c.args.self.now.queue nothing). row_done graph spec F n fallen last c.push_vertex.new.self.queue v number
-    (c.in_ok-push_vertex.ensures.kept graph fallen of
+    ((rw c.look_ahead.ensures at c.in_ok-push_vertex.ensures.kept) graph fallen of
     (next_pushes c.args.graph.now graph spec F n fallen old mid c.loop-vertex.self.queue c.take_best.new.self.queue v number of
     (c.loop-vertex.invariant.kept graph fallen of start).0 (rw c.in-Some.is at c.in_ok-vertex.ensures.next) (rw c.in-Some.is at c.in_ok-vertex.ensures.small) g.A.Monotone.BOTH_WAYS ways c.take_best.ensures.queued)) in
     record {
@@ -72,7 +72,7 @@ loop-vertex-preserved g c =
         after graph fallen of start,
         (let before = c.loop-vertex.invariant.kept graph fallen of start in
             let step = next_settled c.args.graph.now graph spec F n fallen old mid c.loop-vertex.self.queue c.take_best.new.self.queue v number of before.0
-            (rw c.in-Some.is at c.in_ok-vertex.ensures.next) (rw c.in-Some.is at c.in_ok-vertex.ensures.small) last (push graph spec) c.push_vertex.ensures.settled in
+            (rw c.in-Some.is at c.in_ok-vertex.ensures.next) (rw c.in-Some.is at c.in_ok-vertex.ensures.small) last (push graph spec) (rw c.look_ahead.ensures at c.push_vertex.ensures.settled) in
             let one = step.0 in
             let size = end_count-push c.args.graph.now graph of g.A.Monotone.BOTH_WAYS spec ways v in
             rise_more (g.M.Meter.ticks c.args.meter.now) (g.M.Meter.ticks c.loop-vertex.meter) (g.M.Meter.ticks c.push_vertex.new.meter)
