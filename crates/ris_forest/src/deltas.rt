@@ -4,15 +4,18 @@ ghost use Rattle.std.specs.Option.{option_copied};
 use ris_base::{NoMemory, Parent, Sequence, Value, Vertices};
 use std::alloc::Global;
 use std::marker::Model;
+use std::mem::size_of;
 
 /// A change of one vertex: its value and its parent from now on, and whether the value differs from before.
 #[derive(Clone, Copy, Debug, PartialEq, Eq)]
 pub struct DeltaRow {
     pub vertex: u32,
+    pub moved: bool,
     pub value: Value,
     pub parent: Parent,
-    pub moved: bool,
 }
+
+const _: () = prove!(size_of::<DeltaRow>() == 48);
 
 /// The changes of one forest that a request makes: a list of rows with ascending vertices, each once.
 #[derive(Drop)]

@@ -9,6 +9,7 @@ pub mod ListingLemmas
 pub mod MergeLemmas
 pub mod NetLemmas
 pub mod PhaseLemmas
+pub mod PlaceLemmas
 pub mod PutLemmas
 pub mod RoomLemmas
 pub mod RowChanges

@@ -47,8 +47,8 @@ impl<M> Graph<M> {
 
     /// The graph that has the vertices below `vertices`, which are at most 4,194,304, and the triples of `base`, each
     /// time that one stands there a copy. It sorts a copy of the triples: in linear time by ranges of targets, by ranges of
-    /// sources and by source, and then those of one range and source in n log n. So it fills each row in ascending order,
-    /// in linear time. A row takes room for its neighbours and an eighth more at once.
+    /// sources, by source and by target, and then those that differ in weight alone in n log n. So it fills each row in
+    /// ascending order, in linear time. A row takes room for its neighbours and an eighth more at once.
     pub fn start(
         alloc: Global,
         vertices: u32,

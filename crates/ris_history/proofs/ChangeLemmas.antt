@@ -1,5 +1,5 @@
 -- Changes that are put into their chains, and taken back.
-use Rattle.std.proofs.Common.{◌≡◌, ℕ, zero, suc, ◌+◌, ◌-◌, ◌*◌, ◌<◌, ◌≤◌, max, ◌&&◌, Bool, true, false, cond, if◌then◌else◌, List, [], ◌∷◌, ◌++◌, length, get_or, set, take, drop, map, Some, arith, refl, inl, inr, sym, ap, ◌∙◌, append_assoc, add-one}
+use Rattle.std.proofs.Common.{◌≡◌, ℕ, zero, suc, ◌+◌, ◌-◌, ◌*◌, ◌<◌, ◌≤◌, max, ◌&&◌, Bool, true, false, cond, if◌then◌else◌, List, [], ◌∷◌, ◌++◌, length, get_or, set, take, map, Some, arith, refl, inl, inr, sym, ap, ◌∙◌, append_assoc, add-one}
 use Rattle.std.specs.Prelude.{nat_lt, fold, Result, Ok, Err, is_ok, OnOk, OnErr}
 use Rattle.std.specs.Ordering.{ord_max, nat_cmp}
 use Rattle.std.proofs.lemmas.Bool.Decides.{nat_tests}
@@ -10,11 +10,10 @@ use Rattle.std.proofs.lemmas.List.{append-nil, length-append, length-set, get_or
 use Rattle.std.proofs.lemmas.List.Elements.{filter-append}
 use Rattle.std.proofs.lemmas.List.Sums.{fold-append}
 use Rattle.std.proofs.Math.Nat.{mul-le-mul_right}
-use Rattle.ris_base.specs.declared.forests.ForestRow.{ForestRow}
 use Rattle.ris_base.specs.declared.records.Change.{Change}
 use Rattle.ris_history.specs.Applied.{moved_by}
 use Rattle.ris_history.specs.declared.moves.Moved.{Moved}
-use Rattle.ris_history.specs.Chains.{HeldView, ChainView, no_chain, pushed, chain_at, grown, appended, number, is_taken, needed, bound_of, row_held, change_held, with_first, with_rows, with_change, with_changes}
+use Rattle.ris_history.specs.Chains.{HeldView, ChainView, no_chain, pushed, chain_at, grown, appended, number, is_taken, needed, bound_of, change_held, with_first, with_change, with_changes}
 use Rattle.ris_history.specs.Sound.{AllEndBy, with_due, with_dues}
 use Rattle.ris_history.specs.declared.trims.Due.{Due}
 use Rattle.ris_history.proofs.ChainLemmas.{length-appended, length-grown, AllEndBy-appended}
@@ -229,17 +228,7 @@ slice_get_some [] k h = absurd (omega arith)
 slice_get_some (x ∷ xs) zero h = (x, refl)
 slice_get_some (x ∷ xs) (suc k) h = slice_get_some xs k (omega arith)
 
--- the items from a place on, with the first of them apart
-pub drop-next : {X : Type 0} (xs : List X) (k : ℕ) (x : X) → slice_get xs k ≡ Some x → drop k xs ≡ x ∷ drop (k + 1) xs
-drop-next [] k x h = absurd (cc)
-drop-next (y ∷ xs) zero x h = let same : y ≡ x = cc in ap (λ z. z ∷ xs) same
-drop-next (y ∷ xs) (suc k) x h = let more = drop-next xs k x h in rw add-one (rw add-one at more)
-
--- the chains with one row more in front
-pub with_rows-next : (n a : ℕ) (rows : List ForestRow) (k : ℕ) (row : ForestRow) (cs : List ChainView) → slice_get rows k ≡ Some row
-    → with_rows n a (drop k rows) cs ≡ with_first (number n a row.vertex) (row_held row) (with_rows n a (drop (k + 1) rows) cs)
-with_rows-next n a rows k row cs h = ap (λ (rs : List ForestRow). with_rows n a rs cs) (drop-next rows k row h)
-
+-- how many chains there are where one more begins with a row
 pub length-with_first : (k : ℕ) (held : HeldView) (cs : List ChainView) → length (with_first k held cs) ≡ length cs + (k + 1 - length cs)
 length-with_first k held cs = length-set (grown (k + 1) cs) k (record { first = held; later = [] }) ∙ length-grown (k + 1) cs
 
@@ -276,13 +265,6 @@ with_dues-many n p dues ds =
     let more = ap length (ap (λ (qs : List Due). with_dues n p qs ds) (sym (append-nil dues)) ∙ with_dues-front n p dues [] ds) in
     let joined = length-append dues (with_dues n p [] ds) in
     omega arith
-
--- nothing is left behind the last item
-pub drop-length : {X : Type 0} (k : ℕ) (xs : List X) → length xs ≤ k → drop k xs ≡ []
-drop-length zero [] h = refl
-drop-length zero (x ∷ xs) h = absurd (omega arith)
-drop-length (suc k) [] h = refl
-drop-length (suc k) (x ∷ xs) h = drop-length k xs (omega arith)
 
 -- all items are among the first as many
 pub take-length : {X : Type 0} (k : ℕ) (xs : List X) → length xs ≤ k → take k xs ≡ xs

@@ -6,6 +6,7 @@ pub mod FloorLaws
 pub mod KeptLaws
 pub mod MovedLaws
 pub mod MovedLemmas
+pub mod OpeningLemmas
 pub mod PartLaws
 pub mod PathLemmas
 pub mod StandLemmas

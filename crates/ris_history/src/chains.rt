@@ -31,6 +31,7 @@ impl Model for Chain {
 
 impl Chain {
     /// A chain of one item. It takes no memory.
+    #[inline(always)]
     pub fn new(first: Held) -> Chain
         ensures { result ≡ record { first = first; later = [] } }
     {

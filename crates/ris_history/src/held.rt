@@ -36,6 +36,7 @@ impl Model for Held {
 
 impl Held {
     /// The item of these three parts.
+    #[inline(always)]
     pub fn new(place: u64, value: Value, parent: Parent) -> Held
         ensures { result ≡ record { place = place; value = value; parent = parent } }
     {

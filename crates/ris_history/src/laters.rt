@@ -28,6 +28,7 @@ impl Model for Later {
 
 impl Later {
     /// No changes. It takes no memory.
+    #[inline(always)]
     pub fn new() -> Later
         ensures { result ≡ [] }
     {

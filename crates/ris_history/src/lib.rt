@@ -9,6 +9,7 @@ mod laters;
 mod laws;
 mod moves;
 mod numbers;
+mod openings;
 mod paths;
 mod pushes;
 mod sessions;

@@ -5,8 +5,9 @@ ghost use Rattle.ris_base.specs.declared.analyses.Value.TheVariants.{Absent};
 ghost use Rattle.ris_history.specs.HistoryView.{shown};
 
 use crate::chains::Chain;
-use crate::growth::{grow, put_rows, room_for};
+use crate::growth::grow;
 use crate::numbers::{bound_of, number};
+use crate::openings::opened_chains;
 use crate::pushes::push_all;
 use crate::trims;
 use crate::trims::Due;
@@ -46,10 +47,7 @@ impl Table {
         let Ok(analyses) = u32::try_from(forests.len()) else {
             return Err(NoMemory);
         };
-        let mut chains = Vec::with_capacity(alloc, room_for(forests))?;
-        for a in 0..analyses {
-            put_rows(&mut chains, analyses, a, forests.at(u64::from(a)))?;
-        }
+        let chains = opened_chains(alloc, analyses, forests)?;
         Ok(Table {
             chains,
             dues: VecDeque::new(alloc),

@@ -163,6 +163,39 @@ fn each_call_answers(rt: HostRuntime) -> Result<(), Fail> {
     Ok(())
 }
 
+#[test]
+fn forests_may_leave_vertices_out(rt: HostRuntime) -> Result<(), Fail> {
+    let alloc = rt.alloc();
+    let row = |vertex, value| ForestRow {
+        vertex,
+        value,
+        parent: Parent::None,
+    };
+    let mut forests = Sequence::new(alloc);
+    let mut first = ForestRows::new(alloc);
+    first.push(row(1, Value::Num(10)))?;
+    first.push(row(4, Value::Num(40)))?;
+    forests.push(first)?;
+    forests.push(ForestRows::new(alloc))?;
+    let mut last = ForestRows::new(alloc);
+    last.push(row(0, Value::Unreached))?;
+    forests.push(last)?;
+    let history = History::start(
+        alloc,
+        &Start {
+            sessions: 1,
+            forests,
+        },
+    )?;
+    assert_eq!(rt; history.analyses(), 3);
+    assert_eq!(rt; history.value_at(0, 0, 0), Ok(Value::Absent));
+    assert_eq!(rt; history.value_at(0, 0, 1), Ok(Value::Num(10)));
+    assert_eq!(rt; history.value_at(0, 0, 4), Ok(Value::Num(40)));
+    assert_eq!(rt; history.value_at(0, 1, 4), Ok(Value::Absent));
+    assert_eq!(rt; history.value_at(0, 2, 0), Ok(Value::Unreached));
+    Ok(())
+}
+
 const ANALYSES: u32 = 2;
 
 const CELLS: u64 = 24;

@@ -93,7 +93,22 @@ impl Store {
     }
 
     /// Gives a vertex this change in place of the one that it had. After `NoMemory` the changes are as before.
+    #[inline(always)]
     pub(crate) fn insert(&mut self, vertex: u32, change: Change) -> Result<(), NoMemory>
+        ensures here { OnOk result (change_at self.new vertex ≡ Some change) }
+        ensures others { OnOk result ((y : ℕ) → (vertex == y) ≡ false → change_at self.new y ≡ change_at self.old y) }
+        ensures err { OnErr result ((y : ℕ) → change_at self.new y ≡ change_at self.old y) }
+    {
+        if let Store::Dense(table) = self {
+            return table.put(vertex, change);
+        }
+        self.insert_any(vertex, change)
+    }
+
+    /// As `insert`, of a store of any kind. It stands apart, so that what a dense one does is short enough to be part of the
+    /// caller.
+    #[inline(never)]
+    fn insert_any(&mut self, vertex: u32, change: Change) -> Result<(), NoMemory>
         ensures here { OnOk result (change_at self.new vertex ≡ Some change) }
         ensures others { OnOk result ((y : ℕ) → (vertex == y) ≡ false → change_at self.new y ≡ change_at self.old y) }
         ensures err { OnErr result ((y : ℕ) → change_at self.new y ≡ change_at self.old y) }

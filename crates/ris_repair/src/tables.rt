@@ -30,6 +30,7 @@ const _: () = prove!(size_of::<Mark>() == 2);
 
 impl Mark {
     /// The mark of a change.
+    #[inline(always)]
     fn of(change: &Change) -> Mark
         ensures { change_of result (number_or_zero change.now.value) change.now.parent ≡ Some change.now }
     {
@@ -46,6 +47,7 @@ impl Mark {
 }
 
 /// A number, and 0 for a value that is none.
+#[inline(always)]
 fn number_or_zero(value: Value) -> u64
     ensures { result ≡ number_or_zero value }
 {
@@ -140,6 +142,7 @@ impl Table {
 
     /// Gives a vertex this change in place of the one that it had. The table grows where it has no such place. After
     /// `NoMemory` the changes are as before.
+    #[inline(always)]
     pub(crate) fn put(&mut self, vertex: u32, change: Change) -> Result<(), NoMemory>
         ensures here { OnOk result (slice_index_or self.new vertex None ≡ Some change) }
         ensures others { OnOk result ((y : ℕ) → (vertex == y) ≡ false → slice_index_or self.new y None ≡ slice_index_or self.old y None) }
@@ -154,6 +157,7 @@ impl Table {
     }
 
     /// Writes a change in a place.
+    #[inline(always)]
     fn write(&mut self, place: usize, change: Change)
         requires { place < length self.old }
         ensures here { slice_index_or self.new place None ≡ Some change }
